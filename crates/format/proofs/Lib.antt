@@ -1,0 +1,14 @@
+pub mod Cases
+pub mod Planted
+pub mod Laying
+pub mod TreeJudged
+pub mod Fits
+pub mod Taken
+pub mod Exact
+pub mod TreeExact
+pub mod ConstraintExact
+pub mod FieldExact
+pub mod Chains
+pub mod Walks
+pub mod BytesExact
+pub mod Layouts

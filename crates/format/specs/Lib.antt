@@ -1,0 +1,9 @@
+pub mod Numbers
+pub mod Trees
+pub mod Parts
+pub mod Judge
+pub mod Fields
+pub mod Ends
+pub mod Format
+pub mod Layout
+pub mod Tables

@@ -1,0 +1,5 @@
+pub mod Bodies
+pub mod Shapes
+pub mod Closing
+pub mod Constraints
+pub mod Additions
