@@ -11,7 +11,7 @@ use Rattle.format.specs.Judge.{State, contents, judge, nothing-read, some-init
 use Rattle.format.specs.declared.node.Form.the-variants.{Initial, Auxiliary}
 use Rattle.format.specs.declared.stage.Tag.{Tag}
 use Rattle.format.specs.declared.stage.Tag.the-variants as tags
-use Rattle.format.specs.Format.{Elementary, as-row}
+use Rattle.format.specs.Format.{Is-field, Elementary, as-row}
 use Rattle.format.specs.Parts.{Contents, pair}
 use Rattle.format.proofs.Taken.{Header-taken, Constraint-taken, Tree-body}
 
@@ -41,14 +41,10 @@ pub record Field-of : Type 0 where
   pub tag : ℕ
   pub body : List ℕ
 
--- a tag byte, two length bytes, the body, and what comes later
-abbrev pub Is-field : Field-of → List ℕ → List ℕ → Type 0
-Is-field f bytes later = (high : ℕ) × (low : ℕ) × (pair high low ≡ length (f .body)) × (bytes ≡ f .tag ∷ (high ∷ (low ∷ (f .body ++ later))))
-
 -- the fields lead from one state of the reading to another
 abbrev pub Chain : State → List Field-of → List ℕ → State → Type 0
 Chain s [] bytes u = (bytes ≡ []) × (s ≡ u)
-Chain s (f ∷ fs) bytes u = (later : List ℕ) × (mid : State) × Is-field f bytes later × Field-taken s (f .tag) (f .body) mid × Chain mid fs later u
+Chain s (f ∷ fs) bytes u = (later : List ℕ) × (mid : State) × Is-field (f .tag) (f .body) bytes later × Field-taken s (f .tag) (f .body) mid × Chain mid fs later u
 
 abbrev pub Begun : Phase → Type 0
 Begun Start = ⊥

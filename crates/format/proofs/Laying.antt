@@ -69,3 +69,16 @@ past-is ns (suc n) i (node k kids rest) h =
     ap (λ (b : Bool). cond b (past ns n (getD ns i no-node .end)) None) (lt-ltb i (length ns) (here .0))
     ∙ (ap (λ (w : Node). past ns n (w .end)) (here .1)
     ∙ (past-is ns n (suc i + size kids) rest later ∙ past-before i k kids (part n rest)))
+
+-- nodes as the file has them
+pub bares-++ : (ns ms : List Node) → bares (ns ++ ms) ≡ bares ns ++ bares ms
+bares-++ [] ms = refl
+bares-++ (n ∷ ns) ms = ap (λ (l : List Entry). bare n ∷ l) (bares-++ ns ms)
+
+pub bares-lay : (i : ℕ) (r : Row) → bares (lay i r) ≡ flatten r
+bares-lay i none = refl
+bares-lay i (node k kids rest) =
+    ap (λ (l : List Entry). entry k (trees-in kids) ∷ l)
+    (bares-++ (lay (suc i) kids) (lay (suc i + size kids) rest)
+    ∙ (ap (λ (l : List Entry). l ++ bares (lay (suc i + size kids) rest)) (bares-lay (suc i) kids)
+    ∙ ap (λ (l : List Entry). flatten kids ++ l) (bares-lay (suc i + size kids) rest)))

@@ -11,4 +11,8 @@ pub mod FieldExact
 pub mod Chains
 pub mod Walks
 pub mod BytesExact
+pub mod Placed
+pub mod Constrained
+pub mod AdjoiningSteps
+pub mod GrammarExact
 pub mod Layouts

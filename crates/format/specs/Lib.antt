@@ -7,3 +7,4 @@ pub mod Ends
 pub mod Format
 pub mod Layout
 pub mod Tables
+pub mod Exactness

@@ -19,6 +19,7 @@ use Rattle.format.specs.Judge.{refusal, refuse, arities, one-tree, inner-root, 
 use Rattle.format.specs.Ends.{bare, bares, fresh, freshes}
 use Rattle.grammar.specs.Reading.{judge-nodes}
 use Rattle.format.proofs.Planted.{flatten-plant}
+use Rattle.format.proofs.Laying.{bares-++, bares-lay}
 use Rattle.format.specs.Parts.{feet}
 
 pub bares-freshes : (es : List Entry) → bares (freshes es) ≡ es
@@ -27,18 +28,6 @@ bares-freshes (e ∷ es) = ap (λ (l : List Entry). e ∷ l) (bares-freshes es)
 
 pub fresh-again : (ns : List Node) (es : List Entry) → ns ≡ freshes es → ns ≡ freshes (bares ns)
 fresh-again ns es h = h ∙ ap freshes (sym (ap bares h ∙ bares-freshes es))
-
-bares-++ : (ns ms : List Node) → bares (ns ++ ms) ≡ bares ns ++ bares ms
-bares-++ [] ms = refl
-bares-++ (n ∷ ns) ms = ap (λ (l : List Entry). bare n ∷ l) (bares-++ ns ms)
-
-pub bares-lay : (i : ℕ) (r : Row) → bares (lay i r) ≡ flatten r
-bares-lay i none = refl
-bares-lay i (node k kids rest) =
-    ap (λ (l : List Entry). entry k (trees-in kids) ∷ l)
-    (bares-++ (lay (suc i) kids) (lay (suc i + size kids) rest)
-    ∙ (ap (λ (l : List Entry). l ++ bares (lay (suc i + size kids) rest)) (bares-lay (suc i) kids)
-    ∙ ap (λ (l : List Entry). flatten kids ++ l) (bares-lay (suc i + size kids) rest)))
 
 one-tree-is : (b : Bool) (o : Option Row) (r : Row) → cond b (inner-root (alone o)) None ≡ Some r → o ≡ Some r
 one-tree-is false o r h = cc
