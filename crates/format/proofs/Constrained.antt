@@ -31,7 +31,7 @@ constrain-all-more ts (x ∷ xs) a ns = constrain-all-more ts xs a (constrain ts
 pub length-constrain-all : (ts : List Tree) (xs : List Adjoining) (ns : List Node) → length (constrain-all ts xs ns) ≡ length ns
 length-constrain-all ts [] ns = refl
 length-constrain-all ts (x ∷ xs) ns =
-  length-constrain-all ts xs (constrain ts x ns) ∙ length-set ns (at ts x) (constrained (getD ns (at ts x) no-node) (constraint-by x))
+    length-constrain-all ts xs (constrain ts x ns) ∙ length-set ns (at ts x) (constrained (getD ns (at ts x) no-node) (constraint-by x))
 
 -- constraints change nothing that the file says of a node
 bares-set : (ns : List Node) (i : ℕ) (c : Constraint) → bares (set ns i (constrained (getD ns i no-node) c)) ≡ bares ns
@@ -44,10 +44,10 @@ bares-constrain-all ts [] ns = refl
 bares-constrain-all ts (x ∷ xs) ns = bares-constrain-all ts xs (constrain ts x ns) ∙ bares-set ns (at ts x) (constraint-by x)
 
 pub kind-placed : (ts : List Elementary) (xs : List Adjoining) (t n : ℕ) → t < length ts → n < size (as-row (tree-at ts t))
-  → getD (constrain-all (trees-from 0 ts) xs (laid-out ts)) (slot (trees-from 0 ts) t n) no-node .kind ≡ kind-at ts t n
+    → getD (constrain-all (trees-from 0 ts) xs (laid-out ts)) (slot (trees-from 0 ts) t n) no-node .kind ≡ kind-at ts t n
 kind-placed ts xs t n h l =
-  let us = trees-from 0 ts in
-  ap (λ (e : Entry). e .kind)
+    let us = trees-from 0 ts in
+    ap (λ (e : Entry). e .kind)
     (sym (getD-bares (constrain-all us xs (laid-out ts)) (slot us t n))
     ∙ (ap (λ (es : List Entry). getD es (slot us t n) no-entry) (bares-constrain-all us xs (laid-out ts))
     ∙ (ap (λ (i : ℕ). getD (bares (laid-out ts)) i no-entry) (slot-is ts t n h) ∙ entry-placed ts t n h l)))
@@ -61,10 +61,10 @@ set-elsewhere ns i j c ne = ap (λ (v : Node). v .constraint) (getD-set-other ns
 
 -- what is set stays set
 stays-set : (ts : List Tree) (xs : List Adjoining) (ns : List Node) (i : ℕ) → i < length ns → isSome (getD ns i no-node .constraint) ≡ true
-  → isSome (getD (constrain-all ts xs ns) i no-node .constraint) ≡ true
+    → isSome (getD (constrain-all ts xs ns) i no-node .constraint) ≡ true
 stays-set ts [] ns i l h = h
 stays-set ts (x ∷ xs) ns i l h =
-  stays-set ts xs (constrain ts x ns) i (omega (arith, length-set ns (at ts x) (constrained (getD ns (at ts x) no-node) (constraint-by x)))) (one (cases-eq i (at ts x)))
+    stays-set ts xs (constrain ts x ns) i (omega (arith, length-set ns (at ts x) (constrained (getD ns (at ts x) no-node) (constraint-by x)))) (one (cases-eq i (at ts x)))
   where
     one : (i ≡ at ts x) ⊎ (i ≡ at ts x → ⊥) → isSome (getD (constrain ts x ns) i no-node .constraint) ≡ true
     one (inl e) = ap isSome (subst (λ (k : ℕ). getD (constrain ts x ns) k no-node .constraint ≡ Some (constraint-by x)) (sym e) (set-there ns (at ts x) (constraint-by x) (omega (arith, e))))
@@ -74,9 +74,10 @@ stays-set ts (x ∷ xs) ns i l h =
 pub all-set : (ts : List Tree) (xs : List Adjoining) (ns : List Node) → All (λ x. at ts x < length ns) xs → All (λ x. isSome (getD (constrain-all ts xs ns) (at ts x) no-node .constraint) ≡ true) xs
 all-set ts [] ns h = tt
 all-set ts (x ∷ xs) ns h =
-  let long = length-set ns (at ts x) (constrained (getD ns (at ts x) no-node) (constraint-by x)) in
-  (stays-set ts xs (constrain ts x ns) (at ts x) (omega (arith, long, h .0)) (ap isSome (set-there ns (at ts x) (constraint-by x) (h .0))),
-   all-set ts xs (constrain ts x ns) (moved xs (h .1)))
+    let long = length-set ns (at ts x) (constrained (getD ns (at ts x) no-node) (constraint-by x)) in (
+      stays-set ts xs (constrain ts x ns) (at ts x) (omega (arith, long, h .0)) (ap isSome (set-there ns (at ts x) (constraint-by x) (h .0))),
+      all-set ts xs (constrain ts x ns) (moved xs (h .1)),
+    )
   where
     moved : (ys : List Adjoining) → All (λ y. at ts y < length ns) ys → All (λ y. at ts y < length (constrain ts x ns)) ys
     moved [] q = tt
@@ -84,6 +85,6 @@ all-set ts (x ∷ xs) ns h =
 
 -- and no other
 pub none-other : (ts : List Tree) (xs : List Adjoining) (ns : List Node) (i : ℕ) → All (λ x. i ≡ at ts x → ⊥) xs → getD ns i no-node .constraint ≡ None
-  → getD (constrain-all ts xs ns) i no-node .constraint ≡ None
+    → getD (constrain-all ts xs ns) i no-node .constraint ≡ None
 none-other ts [] ns i h e = e
 none-other ts (x ∷ xs) ns i h e = none-other ts xs (constrain ts x ns) i (h .1) (set-elsewhere ns (at ts x) i (constraint-by x) (h .0) ∙ e)

@@ -15,4 +15,5 @@ pub mod Placed
 pub mod Constrained
 pub mod AdjoiningSteps
 pub mod GrammarExact
+pub mod Kept
 pub mod Layouts

@@ -30,7 +30,7 @@ length-laid-out (t ∷ ts) = length-append (lay 0 (as-row t)) (laid-out ts) ∙ 
 pub trees-from-more : (i : ℕ) (ts : List Elementary) (t : Elementary) → trees-from i (ts ++ (t ∷ [])) ≡ trees-from i ts ++ (placed (i + sizes ts) t ∷ [])
 trees-from-more i [] t = ap (λ (n : ℕ). placed n t ∷ []) (let e : i ≡ i + 0 = omega arith in e)
 trees-from-more i (u ∷ ts) t =
-  ap (λ (l : List Tree). placed i u ∷ l)
+    ap (λ (l : List Tree). placed i u ∷ l)
     (trees-from-more (i + size (as-row u)) ts t
     ∙ ap (λ (n : ℕ). trees-from (i + size (as-row u)) ts ++ (placed n t ∷ [])) (let e : i + size (as-row u) + sizes ts ≡ i + (size (as-row u) + sizes ts) = omega arith in e))
 
@@ -52,8 +52,8 @@ pub tree-placed : (i : ℕ) (ts : List Elementary) (t : ℕ) → t < length ts �
 tree-placed i [] t h = elim (let f : ⊥ = omega arith in f) [ ]
 tree-placed i (u ∷ ts) zero h = ap (λ (n : ℕ). placed n u) (let e : i ≡ i + 0 = omega arith in e)
 tree-placed i (u ∷ ts) (suc t) h =
-  tree-placed (i + size (as-row u)) ts t (omega arith)
-  ∙ ap (λ (n : ℕ). placed n (tree-at ts t)) (let e : i + size (as-row u) + before ts t ≡ i + (size (as-row u) + before ts t) = omega arith in e)
+    tree-placed (i + size (as-row u)) ts t (omega arith)
+    ∙ ap (λ (n : ℕ). placed n (tree-at ts t)) (let e : i + size (as-row u) + before ts t ≡ i + (size (as-row u) + before ts t) = omega arith in e)
 
 pub slot-is : (ts : List Elementary) (t n : ℕ) → t < length ts → slot (trees-from 0 ts) t n ≡ before ts t + n
 slot-is ts t n h = ap (λ (u : Tree). u .start + n) (tree-placed 0 ts t h) ∙ (let e : 0 + before ts t + n ≡ before ts t + n = omega arith in e)
@@ -74,23 +74,23 @@ within (x ∷ ts) (suc t) h = let e = within ts t (omega arith) in omega arith
 
 -- no two nodes stand at one place
 pub one-place : (ts : List Elementary) (t n u m : ℕ) → t < length ts → n < size (as-row (tree-at ts t)) → u < length ts → m < size (as-row (tree-at ts u))
-  → before ts t + n ≡ before ts u + m → (t ≡ u) × (n ≡ m)
+    → before ts t + n ≡ before ts u + m → (t ≡ u) × (n ≡ m)
 one-place ts t n u m ht hn hu hm e = by (decLt t u) (decLt u t)
   where
     by : Dec (t < u) → Dec (u < t) → (t ≡ u) × (n ≡ m)
     by (yes l) d = elim (let k = later ts t u l hu in let f : ⊥ = omega arith in f) [ ]
     by (no a) (yes l) = elim (let k = later ts u t l ht in let f : ⊥ = omega arith in f) [ ]
     by (no a) (no b) =
-      let same : t ≡ u = omega arith in
-      let k : before ts t ≡ before ts u = ap (before ts) same in
-      (same, omega arith)
+        let same : t ≡ u = omega arith in
+        let k : before ts t ≡ before ts u = ap (before ts) same in
+        (same, omega arith)
 
 -- What is read of the nodes -------------------------------------------------------------------------------------------
 
 pub length-flatten : (r : Row) → length (flatten r) ≡ size r
 length-flatten none = refl
 length-flatten (node k kids rest) =
-  ap suc (length-append (flatten kids) (flatten rest) ∙ (let a = length-flatten kids in let b = length-flatten rest in omega arith))
+    ap suc (length-append (flatten kids) (flatten rest) ∙ (let a = length-flatten kids in let b = length-flatten rest in omega arith))
 
 pub getD-bares : (ns : List Node) (i : ℕ) → getD (bares ns) i no-entry ≡ bare (getD ns i no-node)
 getD-bares [] i = refl
@@ -105,16 +105,16 @@ getD-behind (x ∷ xs) ys d n = ap (λ (k : ℕ). getD (x ∷ (xs ++ ys)) k d) (
 pub entry-placed : (ts : List Elementary) (t n : ℕ) → t < length ts → n < size (as-row (tree-at ts t)) → getD (bares (laid-out ts)) (before ts t + n) no-entry ≡ getD (preorder (tree-at ts t)) n no-entry
 entry-placed [] t n h l = elim (let f : ⊥ = omega arith in f) [ ]
 entry-placed (x ∷ ts) zero n h l =
-  let long = length-flatten (as-row x) in
-  ap (λ (es : List Entry). getD es (0 + n) no-entry) (bares-++ (lay 0 (as-row x)) (laid-out ts) ∙ ap (λ (es : List Entry). es ++ bares (laid-out ts)) (bares-lay 0 (as-row x)))
-  ∙ (ap (λ (k : ℕ). getD (preorder x ++ bares (laid-out ts)) k no-entry) (let e : 0 + n ≡ n = omega arith in e)
-  ∙ List·getD-append (preorder x) (bares (laid-out ts)) no-entry n (omega arith))
+    let long = length-flatten (as-row x) in
+    ap (λ (es : List Entry). getD es (0 + n) no-entry) (bares-++ (lay 0 (as-row x)) (laid-out ts) ∙ ap (λ (es : List Entry). es ++ bares (laid-out ts)) (bares-lay 0 (as-row x)))
+    ∙ (ap (λ (k : ℕ). getD (preorder x ++ bares (laid-out ts)) k no-entry) (let e : 0 + n ≡ n = omega arith in e)
+    ∙ List·getD-append (preorder x) (bares (laid-out ts)) no-entry n (omega arith))
 entry-placed (x ∷ ts) (suc t) n h l =
-  let long = length-flatten (as-row x) in
-  ap (λ (es : List Entry). getD es (size (as-row x) + before ts t + n) no-entry) (bares-++ (lay 0 (as-row x)) (laid-out ts) ∙ ap (λ (es : List Entry). es ++ bares (laid-out ts)) (bares-lay 0 (as-row x)))
-  ∙ (ap (λ (k : ℕ). getD (preorder x ++ bares (laid-out ts)) k no-entry) (let e : size (as-row x) + before ts t + n ≡ length (preorder x) + (before ts t + n) = omega arith in e)
-  ∙ (getD-behind (preorder x) (bares (laid-out ts)) no-entry (before ts t + n)
-  ∙ entry-placed ts t n (omega arith) l))
+    let long = length-flatten (as-row x) in
+    ap (λ (es : List Entry). getD es (size (as-row x) + before ts t + n) no-entry) (bares-++ (lay 0 (as-row x)) (laid-out ts) ∙ ap (λ (es : List Entry). es ++ bares (laid-out ts)) (bares-lay 0 (as-row x)))
+    ∙ (ap (λ (k : ℕ). getD (preorder x ++ bares (laid-out ts)) k no-entry) (let e : size (as-row x) + before ts t + n ≡ length (preorder x) + (before ts t + n) = omega arith in e)
+    ∙ (getD-behind (preorder x) (bares (laid-out ts)) no-entry (before ts t + n)
+    ∙ entry-placed ts t n (omega arith) l))
 
 -- no node of a fresh layout has a constraint
 abbrev Bare-at : List Node → Type 0

@@ -1,19 +1,21 @@
 -- What a laid out tree gives the layers above: children one behind the other, each with its whole subtree.
-use Prim.Native.Nat.{ℕ, suc, _+_, _<_, _≤_}
+use Prim.Native.Nat.{ℕ, zero, suc, _+_, _<_, _≤_}
 use mathlib.Core.Path.{_≡_}
 use mathlib.Core.List.{List, [], _∷_}
 use lib.ListN.{length, getD}
-use Rattle.std.specs.declared.option.Option.the-variants.{Some}
 use Rattle.format.specs.declared.node.Node.{Node}
-use Rattle.format.specs.Trees.{Row, lay}
-use Rattle.format.specs.Ends.{past}
 use Rattle.format.specs.Parts.{no-node}
 
--- Each node's children begin right behind it and end where its subtree ends; a subtree ends behind its root and within the tree.
-pub record Nested (ns : List Node) (n : ℕ) : Type 0 where
-  pub children : past ns (getD ns n no-node .children) (suc n) ≡ Some (getD ns n no-node .end)
-  pub behind : n < getD ns n no-node .end
-  pub within : getD ns n no-node .end ≤ length ns
+-- the number past the k subtrees that begin at number i
+abbrev pub pass : List Node → ℕ → ℕ → ℕ
+pass vs zero i = i
+pass vs (suc k) i = pass vs k (getD vs i no-node .end)
 
-abbrev pub All-nested : Type 0
-All-nested = (r : Row) (n : ℕ) → n < length (lay 0 r) → Nested (lay 0 r) n
+-- A subtree ends behind its root and within the tree, and has whole subtrees in it; the children begin right behind the root
+-- and end where the subtree ends.
+pub record Nested (vs : List Node) (n : ℕ) : Type 0 where
+  pub behind : n < getD vs n no-node .end
+  pub within : getD vs n no-node .end ≤ length vs
+  pub subtrees : (k : ℕ) → n < k → k < getD vs n no-node .end → getD vs k no-node .end ≤ getD vs n no-node .end
+  pub children : pass vs (getD vs n no-node .children) (suc n) ≡ getD vs n no-node .end
+  pub child : (k : ℕ) → k < getD vs n no-node .children → pass vs k (suc n) < getD vs n no-node .end

@@ -8,3 +8,4 @@ pub mod Format
 pub mod Layout
 pub mod Tables
 pub mod Exactness
+pub mod Keeps

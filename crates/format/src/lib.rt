@@ -8,11 +8,9 @@ ghost use Rattle.format.specs.Exactness.{Judged-exactly, One-or-other};
 /// The judgement of bytes takes exactly those that are a grammar of the format.
 pub fn judged_exactly()
     ensures { λ _. ⌜ Judged-exactly ⌝ }
-{
-}
+{}
 
 /// Every list of bytes is one grammar or has one fault, never both and never neither.
 pub fn one_or_other()
     ensures { λ _. ⌜ One-or-other ⌝ }
-{
-}
+{}

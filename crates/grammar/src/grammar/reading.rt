@@ -1,12 +1,10 @@
 //! Reading a grammar.
 ghost use Rattle.format.specs.Judge.{judge};
 ghost use Rattle.grammar.specs.Whole.{Grammar-read, Grammar-exact};
-
-use std::alloc::Global;
-
 use crate::grammar::Grammar;
 use crate::read::ReadError;
 use crate::read::read_fields;
+use std::alloc::Global;
 
 impl Grammar {
     /// The grammar that the bytes are, or their one fault; or want of memory.
@@ -15,7 +13,11 @@ impl Grammar {
         ensures exact { λ r. ⌜ Grammar-exact (now (bytes .entry)) r ⌝ }
     {
         match read_fields(heap, bytes) {
-            Ok(draft) => Ok(Grammar { labels: draft.labels, words: draft.words, table: draft.table }),
+            Ok(draft) => Ok(Grammar {
+                labels: draft.labels,
+                words: draft.words,
+                table: draft.table,
+            }),
             Err(error) => Err(error),
         }
     }
