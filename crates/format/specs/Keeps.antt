@@ -3,7 +3,7 @@ use Prim.Native.Nat.{ℕ, zero, suc, _+_, _<_, _≤_}
 use mathlib.Core.Path.{_≡_}
 use mathlib.Core.Bool.{Bool, true, false, _||_}
 use mathlib.Core.List.{List, [], _∷_}
-use lib.ListN.{length, getD, take, drop}
+use lib.ListN.{length, getD}
 use Rattle.std.specs.declared.option.Option.{Option}
 use Rattle.std.specs.declared.option.Option.the-variants.{None, Some}
 use Rattle.std.specs.Options.{isSome}
@@ -16,7 +16,7 @@ use Rattle.format.specs.declared.node.Obligation.the-variants.{Optional, Oblig
 use Rattle.format.specs.declared.node.Constraint.{Constraint}
 use Rattle.format.specs.declared.node.Node.{Node}
 use Rattle.format.specs.declared.node.Tree.{Tree}
-use Rattle.format.specs.Parts.{Contents, no-tree, no-node, label-of-kind}
+use Rattle.format.specs.Parts.{Contents, no-tree, no-node, label-of-kind, nodes-at}
 use Rattle.format.specs.Judge.{is-auxiliary, some-initial, adjoinable}
 use Rattle.format.specs.Format.{name-of}
 use Rattle.format.specs.Layout.{pass}
@@ -28,7 +28,7 @@ tree-in c t = getD (c .trees) t no-tree
 
 -- the nodes of tree t, in the order of the file
 abbrev pub nodes-in : Contents → ℕ → List Node
-nodes-in c t = take (tree-in c t .size) (drop (tree-in c t .start) (c .nodes))
+nodes-in c t = nodes-at (c .trees) (c .nodes) t
 
 abbrev pub node-in : Contents → ℕ → ℕ → Node
 node-in c t n = getD (nodes-in c t) n no-node

@@ -9,3 +9,4 @@ pub mod Layout
 pub mod Tables
 pub mod Exactness
 pub mod Keeps
+pub mod Questions

@@ -2,7 +2,7 @@
 use Prim.Native.Nat.{ℕ, _+_, _*_}
 use mathlib.Core.Bool.{Bool, true, false}
 use mathlib.Core.List.{List, [], _∷_}
-use lib.ListN.{getD, set, replicate}
+use lib.ListN.{getD, set, replicate, take, drop}
 use Rattle.std.specs.declared.option.Option.the-variants.{None, Some}
 use Rattle.format.specs.declared.node.Kind.{Kind}
 use Rattle.format.specs.declared.node.Kind.the-variants.{Inner, Word, Empty, Foot}
@@ -64,3 +64,7 @@ constrained v c = record { kind = v .kind; children = v .children; end = v .end;
 -- where node n of tree t stands in the table
 abbrev pub slot : List Tree → ℕ → ℕ → ℕ
 slot ts t n = getD ts t no-tree .start + n
+
+-- the nodes of tree t, in the order of the file
+abbrev pub nodes-at : List Tree → List Node → ℕ → List Node
+nodes-at ts ns t = take (getD ts t no-tree .size) (drop (getD ts t no-tree .start) ns)

@@ -3,3 +3,5 @@ pub mod Shapes
 pub mod Closing
 pub mod Constraints
 pub mod Additions
+pub mod Questions
+pub mod Listings

@@ -32,7 +32,12 @@ fn fresh(kind: Kind, children: u8) -> Node
 }
 
 /// The nodes of a body in the order of the file, or the first with a bad kind or name.
-pub fn read_nodes(heap: Global, labels: u8, words: u16, body: &[u8]) -> Result<Vec<Node>, Stop>
+pub(crate) fn read_nodes(
+    heap: Global,
+    labels: u8,
+    words: u16,
+    body: &[u8],
+) -> Result<Vec<Node>, Stop>
     ensures { λ r. ⌜ Agrees (judge-nodes (entries labels words 0 (now (body .entry)))) (λ v es. vec-items v ≡ freshes es) r ⌝ }
 {
     let mut nodes = Vec::new(heap);
@@ -61,7 +66,7 @@ fn fits(kind: Kind, children: u8) -> bool
 }
 
 /// Whether each node has as many children as its kind may have.
-pub fn arities(nodes: &[Node]) -> bool
+pub(crate) fn arities(nodes: &[Node]) -> bool
     ensures { λ r. ⌜ r ≡ arities (bares (now (nodes .entry))) ⌝ }
 {
     for node in nodes {
@@ -73,7 +78,7 @@ pub fn arities(nodes: &[Node]) -> bool
 }
 
 /// Whether the feet are right for a tree of this form whose root has the label.
-pub fn feet_right(form: Form, label: u8, nodes: &[Node]) -> bool
+pub(crate) fn feet_right(form: Form, label: u8, nodes: &[Node]) -> bool
     ensures { λ r. ⌜ r ≡ feet-right form label (feet (bares (now (nodes .entry)))) ⌝ }
 {
     let mut feet: usize = 0;

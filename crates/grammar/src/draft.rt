@@ -26,7 +26,7 @@ pub struct Draft {
 
 impl Draft {
     /// Nothing read so far.
-    pub fn new(heap: Global) -> Draft
+    pub(crate) fn new(heap: Global) -> Draft
         ensures { λ r. ⌜ state r ≡ nothing-read ⌝ }
     {
         Draft {
@@ -84,7 +84,7 @@ impl Draft {
     }
 
     /// One more field.
-    pub fn field(&mut self, heap: Global, tag: u8, body: &[u8]) -> Result<(), Stop>
+    pub(crate) fn field(&mut self, heap: Global, tag: u8, body: &[u8]) -> Result<(), Stop>
         ensures { λ r. ⌜ Judged (judge-field (state (now (self .entry))) tag (now (body .entry))) (now (self .exit)) r ⌝ }
     {
         let Some(tag) = tag_of(tag) else {

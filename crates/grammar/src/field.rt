@@ -10,7 +10,7 @@ use format::node::Kind;
 use format::stage::Tag;
 
 /// Two bytes as one number, the high byte first.
-pub fn pair(high: u8, low: u8) -> u16
+pub(crate) fn pair(high: u8, low: u8) -> u16
     ensures { λ r. ⌜ r ≡ 256 * high + low ⌝ }
 {
     256 * u16::from(high) + u16::from(low)
@@ -43,7 +43,7 @@ pub fn next_field(bytes: &[u8]) -> Option<Field<'_>>
 }
 
 /// What a field is, by its tag byte.
-pub fn tag_of(tag: u8) -> Option<Tag>
+pub(crate) fn tag_of(tag: u8) -> Option<Tag>
     ensures { λ r. ⌜ r ≡ tag-of tag ⌝ }
 {
     match tag {
@@ -56,7 +56,7 @@ pub fn tag_of(tag: u8) -> Option<Tag>
 }
 
 /// A node's kind by its kind byte and its name, or none where either is bad.
-pub fn kind_of(labels: u8, words: u16, kind: u8, name: u16) -> Option<Kind>
+pub(crate) fn kind_of(labels: u8, words: u16, kind: u8, name: u16) -> Option<Kind>
     ensures { λ r. ⌜ r ≡ kind-of labels words kind name ⌝ }
 {
     match kind {

@@ -31,5 +31,8 @@ pub struct Grammar {
     ghost obligations: { Obligations (holding labels words table) },
 }
 
+mod layout;
+mod listing;
 mod parts;
+mod questions;
 mod reading;

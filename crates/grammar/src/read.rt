@@ -45,7 +45,7 @@ fn at_place(stop: Stop, place: usize) -> ReadError
 }
 
 /// What the bytes give, field by field, or their one fault.
-pub fn read_fields(heap: Global, bytes: &[u8]) -> Result<Draft, ReadError>
+pub(crate) fn read_fields(heap: Global, bytes: &[u8]) -> Result<Draft, ReadError>
     ensures { λ r. ⌜ Reads (judge (now (bytes .entry))) r ⌝ }
 {
     if bytes.len() > MOST_BYTES {

@@ -6,7 +6,7 @@ ghost use Rattle.format.specs.Ends.{past, bares, freshes, Closed};
 use format::node::Node;
 
 /// The number past the `count` subtrees that begin at `from`, by their ends; none where fewer begin there.
-pub fn past_subtrees(nodes: &[Node], from: usize, count: u8) -> Option<usize>
+pub(crate) fn past_subtrees(nodes: &[Node], from: usize, count: u8) -> Option<usize>
     ensures { λ r. ⌜ r ≡ past (now (nodes .entry)) count from ⌝ }
 {
     let mut at = from;
@@ -21,7 +21,7 @@ pub fn past_subtrees(nodes: &[Node], from: usize, count: u8) -> Option<usize>
 
 /// Gives each node the number past its subtree, from the last node to the first: a node's children are the subtrees that
 /// begin right behind it. Answers whether the child counts make exactly one tree.
-pub fn close_subtrees(nodes: &mut [Node]) -> bool
+pub(crate) fn close_subtrees(nodes: &mut [Node]) -> bool
     requires { ⌜ now nodes ≡ freshes (bares (now nodes)) ⌝ }
     ensures { λ r. ⌜ Closed (bares (now (nodes .entry))) (now (nodes .exit)) r ⌝ }
 {

@@ -31,7 +31,7 @@ pub impl<T: Drop> From<Refused<T>> for Stop as StopFromRefused {
 }
 
 /// The rule is broken, at no node of its own.
-pub fn refuse(rule: Rule) -> Stop
+pub(crate) fn refuse(rule: Rule) -> Stop
     ensures { λ r. ⌜ r ≡ Stop.Broken (refusal rule 0) ⌝ }
 {
     Stop::Broken(Refusal { rule, node: 0 })

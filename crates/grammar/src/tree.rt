@@ -18,7 +18,7 @@ use format::node::Node;
 use std::alloc::Global;
 
 /// The root's label, where child counts make one tree by the rules and its root is an inner node; the nodes then have their ends.
-pub fn shape(nodes: &mut [Node]) -> Option<u8>
+pub(crate) fn shape(nodes: &mut [Node]) -> Option<u8>
     requires { ⌜ now nodes ≡ freshes (bares (now nodes)) ⌝ }
     ensures { λ r. ⌜ Shaped (one-tree (bares (now (nodes .entry)))) (now (nodes .exit)) r ⌝ }
 {
@@ -45,7 +45,7 @@ pub struct Planted {
 }
 
 /// The tree of a body, by the rules for a tree of this form.
-pub fn read_tree(
+pub(crate) fn read_tree(
     heap: Global,
     labels: u8,
     words: u16,

@@ -1,7 +1,7 @@
 //! The parts of a grammar.
 ghost use mathlib.Core.Path.{_≡_};
-ghost use mathlib.Core.List.{[]};
-ghost use Rattle.grammar.specs.Grammars.{contents-in, trees-of, nodes-of};
+ghost use Rattle.format.specs.Keeps.{nodes-in};
+ghost use Rattle.grammar.specs.Grammars.{contents-in};
 use crate::grammar::Grammar;
 use format::node::Node;
 use format::node::Tree;
@@ -23,14 +23,14 @@ impl Grammar {
 
     /// The trees, in the order of the file.
     pub fn trees(&self) -> &[Tree]
-        ensures { λ r. ⌜ now r ≡ trees-of (now (self .entry)) ⌝ }
+        ensures { λ r. ⌜ now r ≡ contents-in (now (self .entry)) .trees ⌝ }
     {
         self.table.trees()
     }
 
     /// The nodes of a tree, in the order of the file; none where there is no such tree.
     pub fn nodes(&self, tree: u8) -> &[Node]
-        ensures { λ r. ⌜ now r ≡ nodes-of (now (self .entry)) tree ⌝ }
+        ensures { λ r. ⌜ now r ≡ nodes-in (contents-in (now (self .entry))) tree ⌝ }
     {
         self.table.nodes(tree)
     }

@@ -18,7 +18,7 @@ use std::alloc::Global;
 
 impl Table {
     /// A table without trees.
-    pub fn new(heap: Global) -> Table
+    pub(crate) fn new(heap: Global) -> Table
         ensures trees { λ r. ⌜ vec-items (r .trees) ≡ [] ⌝ }
         ensures nodes { λ r. ⌜ vec-items (r .nodes) ≡ [] ⌝ }
     {
@@ -29,14 +29,14 @@ impl Table {
     }
 
     /// Whether one more tree with so many nodes finds room: a grammar has at most 64 trees and 256 nodes.
-    pub fn has_room(&self, nodes: usize) -> bool
+    pub(crate) fn has_room(&self, nodes: usize) -> bool
         ensures { λ r. ⌜ r ≡ (ltb (length (vec-items (now (self .entry) .trees))) 64 && leb (length (vec-items (now (self .entry) .nodes)) + nodes) 256) ⌝ }
     {
         self.trees.len() < 64 && self.nodes.len() <= 256 && nodes <= 256 - self.nodes.len()
     }
 
     /// One more tree, with its nodes behind all others.
-    pub fn add_tree(&mut self, form: Form, planted: &Planted) -> Result<(), AllocError>
+    pub(crate) fn add_tree(&mut self, form: Form, planted: &Planted) -> Result<(), AllocError>
         ensures trees { λ r. ⌜ made r (λ _. vec-items (now (self .exit) .trees) ≡ vec-items (now (self .entry) .trees) ++ (tree-behind (vec-items (now (self .entry) .nodes)) form (now (planted .entry)) ∷ [])) ⌝ }
         ensures nodes { λ r. ⌜ made r (λ _. vec-items (now (self .exit) .nodes) ≡ vec-items (now (self .entry) .nodes) ++ vec-items (now (planted .entry) .nodes)) ⌝ }
     {
@@ -53,7 +53,7 @@ impl Table {
     }
 
     /// Whether some tree is initial.
-    pub fn some_initial(&self) -> bool
+    pub(crate) fn some_initial(&self) -> bool
         ensures { λ r. ⌜ r ≡ some-initial (vec-items (now (self .entry) .trees)) ⌝ }
     {
         any_initial(self.trees.as_slice())

@@ -1,9 +1,7 @@
 //! The trees of a table and their nodes.
 ghost use mathlib.Core.Path.{_≡_};
-ghost use lib.ListN.{getD, take, drop};
 ghost use Rattle.std.specs.Of.Vec.{vec-items};
-ghost use Rattle.format.specs.Parts.{no-tree};
-ghost use Rattle.grammar.specs.Tables.{nodes-in};
+ghost use Rattle.format.specs.Parts.{nodes-at};
 use crate::table::Table;
 use format::node::Node;
 use format::node::Tree;
@@ -18,7 +16,7 @@ impl Table {
 
     /// The nodes of a tree; none where there is no such tree.
     pub fn nodes(&self, tree: u8) -> &[Node]
-        ensures { λ r. ⌜ now r ≡ nodes-in (vec-items (now (self .entry) .trees)) (vec-items (now (self .entry) .nodes)) tree ⌝ }
+        ensures { λ r. ⌜ now r ≡ nodes-at (vec-items (now (self .entry) .trees)) (vec-items (now (self .entry) .nodes)) tree ⌝ }
     {
         let trees = self.trees.as_slice();
         let nodes = self.nodes.as_slice();

@@ -23,7 +23,7 @@ fn adjoinable(kind: Kind) -> bool
 }
 
 /// The label of an inner node or a foot.
-pub fn label_of(kind: Kind) -> u8
+pub(crate) fn label_of(kind: Kind) -> u8
     ensures { λ r. ⌜ r ≡ label-of-kind kind ⌝ }
 {
     match kind {
@@ -33,7 +33,7 @@ pub fn label_of(kind: Kind) -> u8
 }
 
 /// Where the node stands in the table, if there is such a node and it may be given a constraint.
-pub fn target(trees: &[Tree], nodes: &[Node], tree: u8, node: u8) -> Option<usize>
+pub(crate) fn target(trees: &[Tree], nodes: &[Node], tree: u8, node: u8) -> Option<usize>
     requires { ⌜ Fit (now trees) (now nodes) ⌝ }
     ensures { λ r. ⌜ r ≡ target (now (trees .entry)) (now (nodes .entry)) tree node ⌝ }
 {
@@ -66,7 +66,7 @@ fn suits(trees: &[Tree], label: u8, tree: u8) -> bool
 }
 
 /// Whether tree numbers rise and are all of auxiliary trees with the label.
-pub fn listable(trees: &[Tree], label: u8, list: &[u8]) -> bool
+pub(crate) fn listable(trees: &[Tree], label: u8, list: &[u8]) -> bool
     ensures { λ r. ⌜ r ≡ listable (now (trees .entry)) label 0 (now (list .entry)) ⌝ }
 {
     let mut least: usize = 0;
@@ -83,7 +83,7 @@ pub fn listable(trees: &[Tree], label: u8, list: &[u8]) -> bool
 }
 
 /// Whether the byte says optional, or obligatory with a tree to adjoin.
-pub fn needs_met(byte: u8, list: &[u8]) -> bool
+pub(crate) fn needs_met(byte: u8, list: &[u8]) -> bool
     ensures { λ r. ⌜ r ≡ needs-met byte (now (list .entry)) ⌝ }
 {
     match list {
@@ -119,7 +119,7 @@ fn obligation_of(byte: u8) -> Obligation
 }
 
 /// The constraint by its byte and its list.
-pub fn constraint_of(byte: u8, list: &[u8]) -> Constraint
+pub(crate) fn constraint_of(byte: u8, list: &[u8]) -> Constraint
     ensures { λ r. ⌜ r ≡ constraint-of byte (now (list .entry)) ⌝ }
 {
     Constraint {
