@@ -14,9 +14,9 @@ use Rattle.format.specs.Trees.{Row, size, lay}
 use Rattle.format.specs.Judge.{State, entries, judge-shape, judge-tree, judge-adjoining, added, root-label, adjoin, adjoined}
 use Rattle.format.proofs.Laying.{length-lay}
 use Rattle.format.proofs.TreeJudged.{tree-judged}
-use Rattle.grammar.specs.Reading.{Laid}
+use Rattle.fields.specs.Reading.{Laid}
 use Rattle.grammar.specs.Tables.{tree-behind}
-use Rattle.grammar.specs.declared.tree.Planted.{Planted}
+use Rattle.fields.specs.declared.tree.Planted.{Planted}
 
 -- a tree that was planted is added behind the others
 pub tree-is-added : (s : State) (f : Form) (body : List ℕ) → 0 < length body → length body % 4 ≡ 0 → length (s .trees) < 64 → length (s .nodes) + length body / 4 ≤ 256

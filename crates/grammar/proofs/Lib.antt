@@ -1,7 +1,4 @@
-pub mod Bodies
-pub mod Shapes
-pub mod Closing
-pub mod Constraints
 pub mod Additions
-pub mod Questions
+pub mod Constraints
 pub mod Listings
+pub mod Questions

@@ -5,8 +5,8 @@ use Rattle.std.specs.declared.result.Result.the-variants.{Ok, Err}
 use Rattle.std.specs.Of.Vec.{vec-items}
 use Rattle.format.specs.declared.fault.Refusal.{Refusal}
 use Rattle.format.specs.Judge.{State}
-use Rattle.grammar.specs.declared.stop.Stop.{Stop}
-use Rattle.grammar.specs.declared.stop.Stop.the-variants.{Broken, OutOfMemory}
+use Rattle.fields.specs.declared.stop.Stop.{Stop}
+use Rattle.fields.specs.declared.stop.Stop.the-variants.{Broken, OutOfMemory}
 use Rattle.grammar.specs.declared.draft.Draft.{Draft}
 
 abbrev pub state : Draft → State

@@ -1,9 +1,7 @@
-pub mod Cuts
-pub mod Reading
-pub mod Tables
 pub mod Adjoins
 pub mod Drafts
-pub mod Read
-pub mod Holds
 pub mod Grammars
+pub mod Holds
+pub mod Read
+pub mod Tables
 pub mod Whole

@@ -9,8 +9,8 @@ use Rattle.format.specs.Judge.{contents, fault}
 use Rattle.grammar.specs.declared.draft.Draft.{Draft}
 use Rattle.grammar.specs.declared.read.ReadError.{ReadError}
 use Rattle.grammar.specs.declared.read.ReadError.the-variants.{Faulty, OutOfMemory}
-use Rattle.grammar.specs.declared.stop.Stop.{Stop}
-use Rattle.grammar.specs.declared.stop.Stop.the-variants as stops
+use Rattle.fields.specs.declared.stop.Stop.{Stop}
+use Rattle.fields.specs.declared.stop.Stop.the-variants as stops
 use Rattle.grammar.specs.Drafts.{state}
 
 abbrev pub Reads : Result Contents Fault → Result Draft ReadError → Type 0

@@ -5,7 +5,7 @@ use Rattle.std.specs.Of.Vec.{vec-items}
 use Rattle.format.specs.declared.node.Node.{Node}
 use Rattle.format.specs.declared.node.Tree.{Tree}
 use Rattle.format.specs.declared.node.Form.{Form}
-use Rattle.grammar.specs.declared.tree.Planted.{Planted}
+use Rattle.fields.specs.declared.tree.Planted.{Planted}
 
 -- the tree whose nodes come behind those of the table
 abbrev pub tree-behind : List Node → Form → Planted → Tree

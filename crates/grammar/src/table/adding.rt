@@ -10,7 +10,7 @@ ghost use Rattle.std.specs.Vec.{made};
 ghost use Rattle.format.specs.Judge.{some-initial};
 ghost use Rattle.grammar.specs.Tables.{tree-behind};
 use crate::table::Table;
-use crate::tree::Planted;
+use fields::tree::Planted;
 use format::node::Form;
 use format::node::Tree;
 use std::alloc::AllocError;

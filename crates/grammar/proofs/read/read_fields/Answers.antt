@@ -6,8 +6,8 @@ use borrow.Author.Tests.{false-eqb, true-eqb}
 use mathlib.Core.List.{List}
 use Rattle.std.specs.declared.result.Result.the-variants.{Ok, Err}
 use Rattle.grammar.specs.declared.draft.Draft.{Draft}
-use Rattle.grammar.specs.declared.stop.Stop.{Stop}
-use Rattle.grammar.specs.declared.stop.Stop.the-variants as stops
+use Rattle.fields.specs.declared.stop.Stop.{Stop}
+use Rattle.fields.specs.declared.stop.Stop.the-variants as stops
 use Rattle.format.specs.Fields.{Whole}
 use Rattle.grammar.specs.Read.{Reads, error-at}
 use Rattle.format.specs.Judge.{State, judge, judge-field, judge-end}
