@@ -1,5 +1,6 @@
 //! The parts of a grammar.
 ghost use mathlib.Core.Path.{_≡_};
+ghost use lib.ListN.{length};
 ghost use Rattle.format.specs.Keeps.{nodes-in};
 ghost use Rattle.grammar.specs.Grammars.{contents-in};
 use crate::grammar::Grammar;
@@ -26,6 +27,13 @@ impl Grammar {
         ensures { λ r. ⌜ now r ≡ contents-in (now (self .entry)) .trees ⌝ }
     {
         self.table.trees()
+    }
+
+    /// How many nodes all trees have together.
+    pub fn node_count(&self) -> usize
+        ensures { λ r. ⌜ r ≡ length (contents-in (now (self .entry)) .nodes) ⌝ }
+    {
+        self.table.node_count()
     }
 
     /// The nodes of a tree, in the order of the file; none where there is no such tree.

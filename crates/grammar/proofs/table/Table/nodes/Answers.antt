@@ -13,5 +13,5 @@ pub returns-then-t-trees : need.returns-then-t-trees
 returns-then-t-trees c =
     let d = c .args .self .now in
     let absent : getD (vec-items (d .trees)) (c .args .tree) no-tree ≡ no-tree
-    = List·getD-eq-default (vec-items (d .trees)) no-tree (omega (arith, ap length (c .as-slice-trees .ensures .value))) in
+    = List·getD-eq-default (vec-items (d .trees)) no-tree (omega (arith, ap length (c .trees-trees .ensures))) in
     sym (ap (λ (t : Tree). take (t .size) (drop (t .start) (vec-items (d .nodes)))) absent)
