@@ -10,3 +10,4 @@ pub mod Tables
 pub mod Exactness
 pub mod Keeps
 pub mod Questions
+pub mod Known

@@ -5,6 +5,7 @@ pub mod spot;
 pub mod stage;
 
 ghost use Rattle.format.specs.Exactness.{Judged-exactly, One-or-other};
+ghost use Rattle.format.specs.Known.{Known-read};
 
 /// The judgement of bytes takes exactly those that are a grammar of the format.
 pub fn judged_exactly()
@@ -14,4 +15,9 @@ pub fn judged_exactly()
 /// Every list of bytes is one grammar or has one fault, never both and never neither.
 pub fn one_or_other()
     ensures { λ _. ⌜ One-or-other ⌝ }
+{}
+
+/// The known grammar is read as its two trees, with the constraint at the root of the first.
+pub fn known_grammar()
+    ensures { λ _. ⌜ Known-read ⌝ }
 {}

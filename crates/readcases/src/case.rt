@@ -32,7 +32,7 @@ pub impl<T: Drop> From<Refused<T>> for CaseError as CaseErrorFromRefused {
 }
 
 /// The name and the tokens of a case.
-pub fn parts(line: &str) -> (&str, &str)
+pub(crate) fn parts(line: &str) -> (&str, &str)
     ensures { λ r. ⌜ Parted (now (line .entry)) (now (r .0)) (now (r .1)) ⌝ }
 {
     match line.split_once(' ') {
@@ -53,7 +53,7 @@ fn repetition(token: &str) -> Result<(u16, &str), CaseError> {
 }
 
 /// The bytes of a case's tokens, one behind the other.
-pub fn bytes(heap: Global, tokens: &str) -> Result<Vec<u8>, CaseError> {
+pub(crate) fn bytes(heap: Global, tokens: &str) -> Result<Vec<u8>, CaseError> {
     let mut bytes = Vec::new(heap);
     for token in tokens.split_whitespace() {
         let (times, digits) = repetition(token)?;

@@ -32,7 +32,7 @@ fn byte(high: u8, low: u8) -> Option<u8>
 }
 
 /// The bytes that the digits give, two digits to a byte.
-pub fn decode(heap: Global, digits: &[u8]) -> Result<Vec<u8>, CaseError>
+pub(crate) fn decode(heap: Global, digits: &[u8]) -> Result<Vec<u8>, CaseError>
     ensures { λ r. ⌜ Decodes (bytes-of (now (digits .entry))) (λ v. vec-items v) r ⌝ }
 {
     let mut bytes = Vec::new(heap);
@@ -51,7 +51,7 @@ pub fn decode(heap: Global, digits: &[u8]) -> Result<Vec<u8>, CaseError>
 }
 
 /// Appends the part so many times.
-pub fn append(bytes: &mut Vec<u8>, times: u16, part: &[u8]) -> Result<(), AllocError>
+pub(crate) fn append(bytes: &mut Vec<u8>, times: u16, part: &[u8]) -> Result<(), AllocError>
     ensures { λ r. ⌜ made r (λ _. vec-items (now (bytes .exit)) ≡ vec-items (now (bytes .entry)) ++ copies times (now (part .entry))) ⌝ }
 {
     for _ in 0..times {

@@ -43,7 +43,7 @@ pub impl fmt::Display for Outcome as OutcomeDisplay {
 }
 
 /// What the reading of a case's bytes answers.
-pub fn of_case(heap: Global, tokens: &str) -> Outcome {
+pub(crate) fn of_case(heap: Global, tokens: &str) -> Outcome {
     match case::bytes(heap, tokens) {
         Ok(bytes) => of_bytes(heap, bytes.as_slice()),
         Err(CaseError::Malformed) => Outcome::Malformed,

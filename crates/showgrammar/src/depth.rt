@@ -4,7 +4,7 @@ ghost use Rattle.showgrammar.specs.Depths.{reaching};
 use format::node::Node;
 
 /// How many of the nodes before a node have a subtree that reaches past its number, so how deep it lies below the root.
-pub fn depth(before: &[Node], number: usize) -> usize
+pub(crate) fn depth(before: &[Node], number: usize) -> usize
     ensures { λ r. ⌜ r ≡ reaching number (now (before .entry)) ⌝ }
 {
     let mut depth: usize = 0;

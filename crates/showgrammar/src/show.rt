@@ -12,7 +12,7 @@ use std::io;
 use summary::counts::Counts;
 
 /// The counts, and then the trees.
-pub fn grammar(rt: &LibcRuntime, grammar: &Grammar) -> io::Result<()> {
+pub(crate) fn grammar(rt: &LibcRuntime, grammar: &Grammar) -> io::Result<()> {
     let Counts {
         labels,
         words,

@@ -46,7 +46,7 @@ pub impl fmt::Display for ConstraintText<'_> as ConstraintTextDisplay {
 }
 
 /// The word for an obligation.
-pub fn obligation_name(obligation: Obligation) -> &'static str
+pub(crate) fn obligation_name(obligation: Obligation) -> &'static str
     ensures { λ r. ⌜ now r ≡ obligation-name obligation ⌝ }
 {
     match obligation {
@@ -56,7 +56,7 @@ pub fn obligation_name(obligation: Obligation) -> &'static str
 }
 
 /// The word for a tree's form.
-pub fn form_name(form: Form) -> &'static str
+pub(crate) fn form_name(form: Form) -> &'static str
     ensures { λ r. ⌜ now r ≡ form-name form ⌝ }
 {
     match form {
