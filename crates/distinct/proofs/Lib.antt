@@ -1,0 +1,4 @@
+pub mod Classes
+pub mod Offers
+pub mod Law
+pub mod Adds

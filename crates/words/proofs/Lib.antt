@@ -1,0 +1,4 @@
+pub mod PathFacts
+pub mod RowWords
+pub mod EdgeLists
+pub mod WindowFacts
