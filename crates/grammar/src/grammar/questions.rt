@@ -7,6 +7,7 @@ ghost use Rattle.format.specs.Questions.{may-start};
 ghost use Rattle.grammar.specs.Grammars.{contents-in};
 use crate::grammar::Grammar;
 use format::node::Form;
+use format::node::Kind;
 use format::node::Node;
 use format::node::Obligation;
 
@@ -24,6 +25,18 @@ impl Grammar {
             Form::Initial => true,
             Form::Auxiliary => false,
         }
+    }
+
+    /// What the node is; an inner node with no label where there is none.
+    pub fn kind(&self, tree: u8, node: u8) -> Kind
+        ensures { λ r. ⌜ r ≡ node-in (contents-in (now (self .entry))) tree node .kind ⌝ }
+    {
+        let nodes = self.nodes(tree);
+        let n = node as usize;
+        if n >= nodes.len() {
+            return Kind::Inner(0);
+        }
+        nodes[n].kind
     }
 
     /// Whether the node may stay as it is.

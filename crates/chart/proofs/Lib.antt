@@ -1,0 +1,6 @@
+pub mod Dots
+pub mod Draws
+pub mod Runs
+pub mod Skips
+pub mod Listed
+pub mod Fixed

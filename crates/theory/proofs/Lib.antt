@@ -1,0 +1,10 @@
+pub mod Members
+pub mod Orders
+pub mod Listings
+pub mod Tests
+pub mod Reading
+pub mod Writing
+pub mod Premises
+pub mod Draws
+pub mod Charts
+pub mod Derived
