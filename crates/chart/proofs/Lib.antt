@@ -4,3 +4,5 @@ pub mod Runs
 pub mod Skips
 pub mod Listed
 pub mod Fixed
+pub mod Works
+pub mod Lives

@@ -193,7 +193,7 @@ stepped f s t u k o p e q =
     (drawn-then s t u (upto k f) o p q)
 
 -- a full store stays as it is
-full-stays : (cap : ℕ) (s : State) (xs : List Item) → s .full ≡ true → draw-all cap s xs ≡ s
+pub full-stays : (cap : ℕ) (s : State) (xs : List Item) → s .full ≡ true → draw-all cap s xs ≡ s
 full-stays cap s [] e = refl
 full-stays cap s (x ∷ xs) e =
     let d : draw cap s x ≡ s = ap (λ (b : Bool). cond b s (draw-by (s .items) x (answer-in same-item cap (s .items) x))) e in

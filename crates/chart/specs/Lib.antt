@@ -1,2 +1,5 @@
 pub mod Drawn
 pub mod Early
+pub mod Works
+pub mod Refusals
+pub mod Charts

@@ -8,3 +8,6 @@ pub mod Premises
 pub mod Draws
 pub mod Charts
 pub mod Derived
+pub mod Room
+pub mod Budgets
+pub mod Verdicts
