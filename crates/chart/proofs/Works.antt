@@ -44,7 +44,7 @@ pub work-on : (c : Contents) (m : Meaning) (s t u : Store) (a n all k : ℕ) →
 work-on c m s t u a n all k h p e go d =
     let cap = length (vec-items (s .items)) in
     let q : all - k ≡ suc (all - (k + 1)) = omega arith in
-    let lt : n < t .held = omega (arith, held-long t, ltb-true n (length (held-in t)) (and-right _ _ go)) in (
+    let lt : n < t .held = omega (arith, held-long t, ltb-true n (length (held-in t)) (and-right (not (t .full)) (ltb n (length (held-in t))) go)) in (
       grown-then s t u p (d .grown),
       e ∙ (worked-go c m cap (all - k) (all - (k + 1)) (working t n) q go ∙ ap (λ (w : Working). worked c m cap (all - (k + 1)) w) (sym (processes-one c m cap t u n (p .room) d))),
       omega (arith, d .grown .grows),

@@ -89,6 +89,18 @@ impl<'g> Chart<'g> {
             processed,
             last,
         } = self;
+        Closed::over(grammar, store, processed, last)
+    }
+}
+
+impl<'g> Closed<'g> {
+    /// A closed chart from its parts.
+    fn over(grammar: &'g Grammar, store: Store, processed: usize, last: u32) -> Closed<'g>
+        ensures grammar { λ r. ⌜ now (r .grammar) ≡ now (grammar .entry) ⌝ }
+        ensures store { λ r. ⌜ r .store ≡ store ⌝ }
+        ensures processed { λ r. ⌜ r .processed ≡ processed ⌝ }
+        ensures last { λ r. ⌜ r .last ≡ last ⌝ }
+    {
         Closed {
             grammar,
             store,
@@ -96,9 +108,7 @@ impl<'g> Chart<'g> {
             last,
         }
     }
-}
 
-impl Closed<'_> {
     /// Hands the memory back: the items held, and past them what stood there before.
     pub fn release(self) -> Vec<Item>
         ensures { λ r. ⌜ r ≡ self .entry .store .items ⌝ }
