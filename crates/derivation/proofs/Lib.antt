@@ -1,0 +1,11 @@
+pub mod Joins
+pub mod Gaps
+pub mod Feet
+pub mod Walks
+pub mod Dots
+pub mod Sound
+pub mod ReadOff
+pub mod Rows
+pub mod Closed
+pub mod Reach
+pub mod Main
