@@ -1,7 +1,7 @@
 -- The dot of an item, and the row below its place.
-use Prim.Native.Nat.{ℕ, zero, suc, _+_}
-use mathlib.Core.Path.{_≡_, refl, sym, _∙_, ap}
-use mathlib.Core.Bool.{true, false}
+use Prim.Native.Nat.{ℕ, zero, suc}
+use mathlib.Core.Path.{_≡_, refl, ap}
+use mathlib.Core.Bool.{true}
 use mathlib.Core.List.{List, [], _∷_, _++_}
 use lib.ListN.{take}
 use Rattle.format.specs.declared.node.Kind.{Kind}
@@ -10,10 +10,10 @@ use Rattle.format.specs.declared.node.Node.{Node}
 use Rattle.format.specs.declared.spot.Spot.{Spot}
 use Rattle.format.specs.declared.spot.Spot.the-variants.{Top, At}
 use Rattle.format.specs.declared.spot.Next.{Next}
-use Rattle.format.specs.declared.spot.Next.the-variants.{End, Bottom, Child}
+use Rattle.format.specs.declared.spot.Next.the-variants.{Bottom, Child}
 use Rattle.format.specs.Parts.{Contents}
 use Rattle.format.specs.Keeps.{nodes-in, node-in}
-use Rattle.format.specs.Questions.{nth, child-next, once, next-in, next-at-top, children-of, after-dot}
+use Rattle.format.specs.Questions.{nth, child-next, next-in, next-at-top, children-of, after-dot}
 use Rattle.steps.specs.Conclusions.{is-end}
 use Rattle.derivation.specs.Derivations.{as-children, below-kind, below-top, below}
 

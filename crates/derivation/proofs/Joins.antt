@@ -1,7 +1,7 @@
 -- Foot positions, joined over gaps.
 use Prim.Native.Nat.{ℕ, min}
 use mathlib.Core.Path.{_≡_, refl, sym, _∙_, ap}
-use mathlib.Core.List.{List, [], _∷_, _++_, append-nil}
+use mathlib.Core.List.{[], _∷_, _++_, append-nil}
 use native.Mathlib.Omega.{arith}
 use native.Mathlib.Decide.{ℕ-discrete}
 use borrow.Author.Tests.{eq-eqb, ne-eqb}
@@ -44,7 +44,7 @@ joined-assoc a b d = pick (ℕ-discrete a 255) (ℕ-discrete b 255) (ℕ-discret
         let n2 : min b d ≡ 255 → ⊥ = λ e. omega arith in
         let e : min (min a b) d ≡ min a (min b d) = omega arith in
         ap (λ (x : ℕ). joined x d) (joined-min a b n k) ∙ joined-min (min a b) d n1 l ∙ e ∙ sym (joined-min a (min b d) n n2)
-            ∙ ap (λ (x : ℕ). joined a x) (sym (joined-min b d k l))
+        ∙ ap (λ (x : ℕ). joined a x) (sym (joined-min b d k l))
 
 pub starts-++ : (gs hs : Gaps) → starts-of (gs ++ hs) ≡ joined (starts-of gs) (starts-of hs)
 starts-++ [] hs = refl

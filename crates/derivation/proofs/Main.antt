@@ -1,9 +1,9 @@
 -- A derivable item says yes exactly if the source admits the yield of a derivation.
 use Prim.Native.Nat.{ℕ, _<_}
-use mathlib.Core.Path.{_≡_, refl, sym, _∙_, ap, subst}
-use mathlib.Core.Bool.{Bool, true, false, _&&_, not}
+use mathlib.Core.Path.{_≡_, refl, sym, _∙_, subst}
+use mathlib.Core.Bool.{true, _&&_, not}
 use mathlib.Core.Logic.{_⊎_, inl, inr}
-use mathlib.Core.List.{List, [], _∷_}
+use mathlib.Core.List.{[], _∷_}
 use native.Mathlib.Omega.{arith}
 use borrow.Author.Tests.{eqb-true, eq-eqb, ltb-true}
 use lib.Dec.{eqb, ltb}
@@ -19,16 +19,20 @@ use Rattle.steps.specs.declared.item.Item.{Item}
 use Rattle.steps.specs.declared.verdict.Verdict.the-variants.{Yes, No}
 use Rattle.steps.specs.Items.{missing, joined, item-at}
 use Rattle.steps.specs.Conclusions.{is-top, whole}
+use Rattle.steps.specs.Runs.{Working, made}
 use Rattle.steps.specs.Verdicts.{says-yes, verdict}
 use Rattle.theory.specs.Verdicts.{Accepted, Right-verdict}
-use Rattle.theory.specs.Calls.{called}
+use Rattle.theory.specs.Theorems.{chart-items}
+use Rattle.theory.specs.Calls.{called, budgets}
 use Rattle.theory.proofs.Tests.{and-split, and-both, top-true}
+use Rattle.theory.proofs.Derived.{held-are-justified}
+use Rattle.theory.proofs.Budgets.{calls-sum}
 use Rattle.theory.proofs.Verdicts.{called-verdicts-are-right}
-use Rattle.derivation.specs.Derivations.{Derivation, below, tree-row, Derives}
+use Rattle.derivation.specs.Derivations.{Derivation, below, tree-row}
 use Rattle.derivation.specs.Walks.{Derived, events, yield}
 use Rattle.derivation.specs.Spans.{Gaps, Spans, starts-of, ends-of, Part, Means}
 use Rattle.derivation.specs.Readings.{derivation-of}
-use Rattle.derivation.specs.Theorems.{Spanned-items-derivable, Read-off-yes, Yes-items-are-derived, Spans-exactly-when-admitted, Accepted-exactly-when-derived, Verdicts-exactly-as-derived}
+use Rattle.derivation.specs.Theorems.{Spanned-items-derivable, Read-off-yes, Yes-items-read-off, Yes-items-are-derived, Called-yes-items-are-derived, Spans-exactly-when-admitted, Accepted-exactly-when-derived, Verdicts-exactly-as-derived}
 use Rattle.derivation.proofs.Joins.{joined-missing}
 use Rattle.derivation.proofs.Gaps.{a-nil, no-gaps}
 use Rattle.derivation.proofs.Feet.{no-foot, gaps-feet}
@@ -36,8 +40,8 @@ use Rattle.derivation.proofs.Walks.{Leads, leads→path, path→leads, valid-o
 use Rattle.derivation.proofs.Sound.{top-part, derivable-items-span}
 use Rattle.derivation.proofs.ReadOff.{justified-items-span}
 use Rattle.derivation.proofs.Rows.{past, past-end}
-use Rattle.derivation.proofs.Closed.{make, H, c-start}
-use Rattle.derivation.proofs.Reach.{FootOk, root-dot, reach}
+use Rattle.derivation.proofs.Closed.{make, Has, c-start}
+use Rattle.derivation.proofs.Reach.{Foot-ok, root-dot, reach}
 
 -- what an item that says yes is
 pub record Says-yes (c : Contents) (n : ℕ) (x : Item) : Type 0 where
@@ -75,6 +79,11 @@ yes-derives c m K x f M e =
 pub yes-items-are-derived : Yes-items-are-derived
 yes-items-are-derived c m K its J k l e = yes-derives c m K (item-at its k) (derivation-of its k) (justified-items-span c m K its J k l) e
 
+pub called-yes-items-are-derived : Called-yes-items-are-derived
+called-yes-items-are-derived c m K cap bs =
+    subst (λ (w : Working). Yes-items-read-off c m (w .state .items)) (sym (calls-sum c m cap (made c cap) bs))
+    (yes-items-are-derived c m K (chart-items c m cap (budgets c m cap bs)) (held-are-justified c m cap (budgets c m cap bs)))
+
 accepted-derived : (c : Contents) (m : Meaning) → Keeps c → Accepted c m (m .last) → Derived c m
 accepted-derived c m K (x, d, e) =
     let M = derivable-items-span c m K x d in
@@ -101,9 +110,9 @@ pub spanned-items-derivable : Spanned-items-derivable
 spanned-items-derivable c m K B x d f l s =
     let ks = drop (x .dot) (below c (x .tree) (x .spot)) in
     let R = reach c m K B s a-nil (x .spot) (x .dot) (x .i) (x .p) (x .q) refl (x .origin, d) in
-    let X : H c m K B (x .tree) (x .spot) (past (x .dot) ks) (x .i) l (x .p) (x .q)
-    = subst (λ (v : ℕ). H c m K B (x .tree) (x .spot) (past (x .dot) ks) (x .i) l (x .p) v) (joined-missing (x .q))
-        (subst (λ (v : ℕ). H c m K B (x .tree) (x .spot) (past (x .dot) ks) (x .i) l v (joined (x .q) missing)) (joined-missing (x .p)) (R .0)) in
+    let X : Has c m K B (x .tree) (x .spot) (past (x .dot) ks) (x .i) l (x .p) (x .q)
+    = subst (λ (v : ℕ). Has c m K B (x .tree) (x .spot) (past (x .dot) ks) (x .i) l (x .p) v) (joined-missing (x .q))
+    (subst (λ (v : ℕ). Has c m K B (x .tree) (x .spot) (past (x .dot) ks) (x .i) l v (joined (x .q) missing)) (joined-missing (x .p)) (R .0)) in
     record { dot = past (x .dot) ks; origin = X .0; derivable = X .1; last = past-end c (x .tree) (x .spot) (x .dot) ks refl }
 
 -- a derivation with an admitted yield makes an item derivable that says yes
@@ -112,15 +121,16 @@ derived-accepted c m K B D =
     let t = D .tree in
     let e = D .derives .starts in
     let S = spans-of c K (D .derives .valid) [] (path→leads (events c t (D .derivation)) (D .admitted)) in
-    let n = no-gaps (FootOk c m K B t) (S .0) (gaps-feet c K (S .1) ∙ no-foot c K t e) in
+    let n = no-gaps (Foot-ok c m K B t) (S .0) (gaps-feet c K (S .1) ∙ no-foot c K t e) in
     let R = reach c m K B (S .1) n Top 0 0 missing missing refl (c-start c m K B t e) in
     let p = joined missing (starts-of (S .0)) in
     let q = joined missing (ends-of (S .0)) in
     let l : t < length (c .trees) = ltb-true t (length (c .trees)) (and-split (ltb t (length (c .trees))) (not (is-auxiliary (tree-in c t .form))) e .0) in
-    let X = root-dot c m K B t l 0 (m .last) p q (R .0) in
-    ( make t Top 1 0 (m .last) p q (X .0)
-    , X .1
-    , and-both e (eq-eqb (m .last) (m .last) refl))
+    let X = root-dot c m K B t l 0 (m .last) p q (R .0) in (
+      make t Top 1 0 (m .last) p q (X .0),
+      X .1,
+      and-both e (eq-eqb (m .last) (m .last) refl),
+    )
 
 pub accepted-exactly-when-derived : Accepted-exactly-when-derived
 accepted-exactly-when-derived c m K B = record { sound = accepted-derived c m K; complete = derived-accepted c m K B }

@@ -1,7 +1,7 @@
 -- The derivation read off a justified item is of its part of the tree.
 use Prim.Native.Nat.{ℕ, zero, suc, _<_}
 use mathlib.Core.Path.{_≡_, refl, sym, ap, subst}
-use mathlib.Core.List.{List, []}
+use mathlib.Core.List.{List}
 use native.Mathlib.Omega.{arith}
 use lib.ListN.{length}
 use Rattle.format.specs.Parts.{Contents}
@@ -12,7 +12,7 @@ use Rattle.steps.specs.Items.{item-at}
 use Rattle.theory.specs.Steps.{Step, start, scan-word, scan-empty, predict, complete, adjoin-predict, foot-predict, foot-complete, adjoin-complete, Below, Justified}
 use Rattle.derivation.specs.Derivations.{Derivation, done, adjoin}
 use Rattle.derivation.specs.Spans.{Means}
-use Rattle.derivation.specs.Readings.{_beside_, by-origin, read-off, derivation-of}
+use Rattle.derivation.specs.Readings.{_beside_, by-origin, read-off}
 use Rattle.derivation.specs.Theorems.{Justified-items-span}
 use Rattle.derivation.proofs.Sound.{sound-step}
 

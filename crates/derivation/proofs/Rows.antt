@@ -11,7 +11,7 @@ use Rattle.format.specs.declared.node.Node.{Node}
 use Rattle.format.specs.declared.spot.Spot.{Spot}
 use Rattle.format.specs.declared.spot.Spot.the-variants.{Top, At}
 use Rattle.format.specs.declared.spot.Next.{Next}
-use Rattle.format.specs.declared.spot.Next.the-variants.{End, Bottom, Child}
+use Rattle.format.specs.declared.spot.Next.the-variants.{Bottom, Child}
 use Rattle.format.specs.Parts.{Contents}
 use Rattle.format.specs.Keeps.{nodes-in, node-in}
 use Rattle.format.specs.Questions.{nth, child-next, once, next-in, next-at-top, children-of, after-dot}

@@ -4,18 +4,18 @@ use mathlib.Core.Path.{_≡_, refl, sym, _∙_, ap, subst}
 use mathlib.Core.Bool.{true}
 use mathlib.Core.List.{List, [], _∷_, _++_, append-assoc}
 use native.Mathlib.Numerals.{add-one}
-use lib.ListN.{take, length}
+use lib.ListN.{take}
 use Rattle.format.specs.declared.spot.Spot.{Spot}
-use Rattle.format.specs.declared.spot.Spot.the-variants.{Top, At}
+use Rattle.format.specs.declared.spot.Spot.the-variants.{Top}
 use Rattle.format.specs.declared.spot.Next.{Next}
-use Rattle.format.specs.declared.spot.Next.the-variants.{Bottom, Child}
+use Rattle.format.specs.declared.spot.Next.the-variants.{Child}
 use Rattle.format.specs.Parts.{Contents}
 use Rattle.format.specs.Keeps.{nodes-in, Keeps}
 use Rattle.words.specs.Meaning.{Meaning}
 use Rattle.steps.specs.declared.item.Item.{Item}
-use Rattle.steps.specs.Items.{joined, missing}
+use Rattle.steps.specs.Items.{joined}
 use Rattle.steps.specs.Conclusions.{after, finished}
-use Rattle.theory.specs.Steps.{Step, start, scan-word, scan-empty, predict, complete, adjoin-predict, foot-predict, foot-complete, adjoin-complete, Derivable-in, Derivable}
+use Rattle.theory.specs.Steps.{Step, start, scan-word, scan-empty, predict, complete, adjoin-predict, foot-predict, foot-complete, adjoin-complete, Derivable-in}
 use Rattle.derivation.specs.Derivations.{Derivation, done, stay, adjoin, below, tree-row}
 use Rattle.derivation.specs.Spans.{Gaps, Spans, s-done, s-word, s-empty, s-bottom, s-plain, s-adjoined, starts-of, ends-of, Part, Means}
 use Rattle.derivation.specs.Readings.{_beside_}
@@ -40,12 +40,13 @@ module _ (c : Contents) (m : Meaning) where
   pub extend : (x : Item) (n : ℕ) {f h : Derivation} {k : ℕ} {hs : Gaps} → after c x ≡ Child n → Means c m f x
       → Spans c m (x .tree) (Child n ∷ []) h (x .j) k hs
       → Part c m (f beside h) (x .tree) (take (x .dot + 1) (below c (x .tree) (x .spot))) (x .i) k (joined (x .p) (starts-of hs)) (joined (x .q) (ends-of hs))
-  extend x n {f} {h} {k} {hs} e M s =
-      ( M .0 ++ hs
-      , subst (λ (ks : List Next). Spans c m (x .tree) ks (f beside h) (x .i) k (M .0 ++ hs))
-          (sym (ap (λ (d : ℕ). take d (below c (x .tree) (x .spot))) (add-one (x .dot)) ∙ dot-past c (x .tree) (x .spot) (x .dot) n e)) (spans-++ (M .1) s)
-      , starts-++ (M .0) hs ∙ ap (λ (r : ℕ). joined r (starts-of hs)) (M .2)
-      , ends-++ (M .0) hs ∙ ap (λ (r : ℕ). joined r (ends-of hs)) (M .3))
+  extend x n {f} {h} {k} {hs} e M s = (
+    M .0 ++ hs,
+    subst (λ (ks : List Next). Spans c m (x .tree) ks (f beside h) (x .i) k (M .0 ++ hs))
+        (sym (ap (λ (d : ℕ). take d (below c (x .tree) (x .spot))) (add-one (x .dot)) ∙ dot-past c (x .tree) (x .spot) (x .dot) n e)) (spans-++ (M .1) s),
+    starts-++ (M .0) hs ∙ ap (λ (r : ℕ). joined r (starts-of hs)) (M .2),
+    ends-++ (M .0) hs ∙ ap (λ (r : ℕ). joined r (ends-of hs)) (M .3),
+  )
 
   pub part-at : {f : Derivation} {t : ℕ} {ks : List Next} {i j p q p' q' : ℕ} → Part c m f t ks i j p q → p ≡ p' → q ≡ q' → Part c m f t ks i j p' q'
   part-at M e h = (M .0, M .1, M .2 ∙ e, M .3 ∙ h)
@@ -60,16 +61,16 @@ module _ (c : Contents) (m : Meaning) where
   carry {f} {t} {t'} {s} {s'} {i} {i'} {j} {j'} {p} {q} e1 e2 e3 e4 M =
       subst (λ (v : ℕ). Part c m f t' (below c t' s') i' v p q) e4
       (subst (λ (v : ℕ). Part c m f t' (below c t' s') v j p q) e3
-        (subst (λ (v : Spot). Part c m f t' (below c t' v) i j p q) e2
-          (subst (λ (v : ℕ). Part c m f v (below c v s) i j p q) e1 M)))
+      (subst (λ (v : Spot). Part c m f t' (below c t' v) i j p q) e2
+      (subst (λ (v : ℕ). Part c m f v (below c v s) i j p q) e1 M)))
 
   pub top-part : {f : Derivation} {t d i i' j p q : ℕ} {s : Spot} → s ≡ Top → d ≡ 1 → i ≡ i' → Part c m f t (take d (below c t s)) i j p q
       → Part c m f t (tree-row c t) i' j p q
   top-part {f} {t} {d} {i} {i'} {j} {p} {q} {s} e1 e2 e3 M =
       subst (λ (v : ℕ). Part c m f t (tree-row c t) v j p q) e3
       (subst (λ (v : List Next). Part c m f t v i j p q) (whole-top (nodes-in c t))
-        (subst (λ (v : ℕ). Part c m f t (take v (tree-row c t)) i j p q) e2
-          (subst (λ (v : Spot). Part c m f t (take d (below c t v)) i j p q) e1 M)))
+      (subst (λ (v : ℕ). Part c m f t (take v (tree-row c t)) i j p q) e2
+      (subst (λ (v : Spot). Part c m f t (take d (below c t v)) i j p q) e1 M)))
 
   -- an adjoined tree has one gap, at the item's foot positions
   pub top-gap : (K : Keeps c) {f : Derivation} {β i j p q : ℕ} → feet-sum (feet-under c β) (tree-row c β) ≡ 1 → Part c m f β (tree-row c β) i j p q
@@ -95,27 +96,34 @@ module _ (c : Contents) (m : Meaning) where
   sound-step K R ih (complete {a = a} {b = b} {n = n} {x = x} {y = y} h h2 e k d e1 e2 e3 e4) =
       let X = ih a x h in
       let U = ih b y h2 in
-      let Y = carry e1 e2 e3 refl (whole-row y e4 (U .1)) in
-      (X .0 beside stay (U .0) done, part-at (extend x n e (X .1) (s-plain k d (Y .1) s-done))
-        (ap (λ (r : ℕ). joined (x .p) r) (starts-nil (Y .0) (Y .2))) (ap (λ (r : ℕ). joined (x .q) r) (ends-nil (Y .0) (Y .3))))
+      let Y = carry e1 e2 e3 refl (whole-row y e4 (U .1)) in (
+        X .0 beside stay (U .0) done,
+        part-at (extend x n e (X .1) (s-plain k d (Y .1) s-done))
+            (ap (λ (r : ℕ). joined (x .p) r) (starts-nil (Y .0) (Y .2))) (ap (λ (r : ℕ). joined (x .q) r) (ends-nil (Y .0) (Y .3))),
+      )
   sound-step K R ih (adjoin-predict h e k l d) = (done, ([], s-done, refl, refl))
   sound-step K R ih (foot-predict h e1 e2 e3 e4 d) = (done, ([], s-done, refl, refl))
-  sound-step K R ih (foot-complete {f = f} {l = l} {x = x} {y = y} h h2 e1 e2 e3 e4 e5 e6 e7 e8) =
-      ( stay done done
-      , ( (x .i, x .j) ∷ []
-        , subst (λ (ks : List Next). Spans c m (y .tree) (take 1 ks) (stay done done) (x .i) (x .j) ((x .i, x .j) ∷ []))
-            (sym (ap (λ (s : Spot). below c (y .tree) s) e4 ∙ foot-row c (y .tree) f l e5)) (s-bottom s-done)
-        , joined-missing (x .i), joined-missing (x .j)))
+  sound-step K R ih (foot-complete {f = f} {l = l} {x = x} {y = y} h h2 e1 e2 e3 e4 e5 e6 e7 e8) = (
+    stay done done,
+    (
+      (x .i, x .j) ∷ [],
+      subst (λ (ks : List Next). Spans c m (y .tree) (take 1 ks) (stay done done) (x .i) (x .j) ((x .i, x .j) ∷ []))
+          (sym (ap (λ (s : Spot). below c (y .tree) s) e4 ∙ foot-row c (y .tree) f l e5)) (s-bottom s-done),
+      joined-missing (x .i),
+      joined-missing (x .j),
+    ),
+  )
   sound-step K R ih (adjoin-complete {a = a} {b = b} {d = d} {n = n} {x = x} {y = y} {z = z} h h2 h3 e k l e1 e2 e3 e4 e5 e6 e7 e8) =
       let U = ih a x h in
       let V = ih b y h2 in
       let Z = ih d z h3 in
       let X = top-gap K (one-foot c K (z .tree) n (x .tree) l) (top-part e1 e2 e3 (U .1)) in
-      let Y = carry e4 e5 e6 e7 (whole-row y e8 (V .1)) in
-      ( Z .0 beside adjoin (x .tree) (U .0) (V .0) done
-      , part-at (extend z n e (Z .1) (s-adjoined k l X (Y .1) s-done))
-          (ap (λ (r : ℕ). joined (z .p) r) (starts-nil (Y .0) (Y .2)) ∙ joined-comm (z .p) (y .p))
-          (ap (λ (r : ℕ). joined (z .q) r) (ends-nil (Y .0) (Y .3)) ∙ joined-comm (z .q) (y .q)))
+      let Y = carry e4 e5 e6 e7 (whole-row y e8 (V .1)) in (
+        Z .0 beside adjoin (x .tree) (U .0) (V .0) done,
+        part-at (extend z n e (Z .1) (s-adjoined k l X (Y .1) s-done))
+            (ap (λ (r : ℕ). joined (z .p) r) (starts-nil (Y .0) (Y .2)) ∙ joined-comm (z .p) (y .p))
+            (ap (λ (r : ℕ). joined (z .q) r) (ends-nil (Y .0) (Y .3)) ∙ joined-comm (z .q) (y .q)),
+      )
 
   sound-in : (K : Keeps c) (h : ℕ) (x : Item) → Derivable-in c m h x → (f : Derivation) × Means c m f x
   sound-in K zero x d = absurd d

@@ -1,20 +1,18 @@
 -- A derivation spans exactly the positions that its events lead over.
-use Prim.Native.Nat.{ℕ, suc}
-use mathlib.Core.Path.{_≡_, refl, sym, _∙_, ap, subst}
+use Prim.Native.Nat.{ℕ}
+use mathlib.Core.Path.{_≡_, refl, sym, _∙_, subst}
 use mathlib.Core.Bool.{Bool, true, false, cond}
 use mathlib.Core.List.{List, [], _∷_, _++_}
 use Rattle.format.specs.declared.node.Kind.{Kind}
 use Rattle.format.specs.declared.node.Kind.the-variants.{Inner, Word, Empty, Foot}
 use Rattle.format.specs.declared.spot.Spot.the-variants.{At}
 use Rattle.format.specs.declared.spot.Next.{Next}
-use Rattle.format.specs.declared.spot.Next.the-variants.{End, Bottom, Child}
 use Rattle.format.specs.Parts.{Contents}
 use Rattle.format.specs.Judge.{adjoinable}
 use Rattle.format.specs.Keeps.{node-in, Keeps}
-use Rattle.format.specs.Questions.{children-of}
 use Rattle.words.specs.Meaning.{Meaning}
 use Rattle.words.specs.Paths.{Path}
-use Rattle.derivation.specs.Derivations.{Derivation, done, stay, adjoin, below-kind, below, tree-row, Valid, v-done, v-word, v-empty, v-bottom, v-plain, v-adjoined}
+use Rattle.derivation.specs.Derivations.{Derivation, below, tree-row, Valid, v-done, v-word, v-empty, v-bottom, v-plain, v-adjoined}
 use Rattle.derivation.specs.Walks.{Event, choice, word, is-choice, met-kind, walk, words-met}
 use Rattle.derivation.specs.Spans.{Gaps, Spans, s-done, s-word, s-empty, s-bottom, s-plain, s-adjoined}
 use Rattle.derivation.proofs.Gaps.{All, a-nil, a-cons, all-left, all-right, all-++, one-gap}
@@ -112,8 +110,8 @@ spans-of c K {m} {t} (v-bottom {ks = ks} {f = f} v) content {i} {j} h =
     (_, s-bottom (s .1), a-cons (r .1) (s .2))
 spans-of c K {m} {t} (v-plain {n = n} {ks = ks} {a = a} {f = f} e p v u) content {i} {j} h =
     let r = leads-split (walk c t (below c t (At n)) a content)
-        (past-any (is-choice c t n) (subst (λ (o : List Event). Leads m (o ++ (walk c t (below c t (At n)) a content ++ walk c t ks f content)) i j)
-            (met-site (node-in c t n .kind) (is-choice c t n) e) h)) in
+    (past-any (is-choice c t n) (subst (λ (o : List Event). Leads m (o ++ (walk c t (below c t (At n)) a content ++ walk c t ks f content)) i j)
+    (met-site (node-in c t n .kind) (is-choice c t n) e) h)) in
     let x = spans-of c K v content (r .1) in
     let y = spans-of c K u content (r .2) in
     (_, s-plain e p (x .1) (y .1), all-++ (x .2) (y .2))
@@ -123,6 +121,6 @@ spans-of c K {m} {t} (v-adjoined {n = n} {β = β} {r = d} {a = a} e p b v u) co
     let x = spans-of c K b inside (r .1) in
     let y = spans-of c K u content (r .2) in
     let o = one-gap (λ (gs : Gaps). Spans c m β (tree-row c β) d i (r .0) gs) (Leads m inside) (x .0)
-        (gaps-feet c K (x .1) ∙ one-foot c K t n β p) (x .1) (x .2) in
+    (gaps-feet c K (x .1) ∙ one-foot c K t n β p) (x .1) (x .2) in
     let z = spans-of c K v content (o .3) in
     (_, s-adjoined e p (o .2) (z .1) (y .1), all-++ (z .2) (y .2))

@@ -9,7 +9,7 @@ use Rattle.format.specs.declared.node.Node.{Node}
 use Rattle.format.specs.declared.spot.Spot.{Spot}
 use Rattle.format.specs.declared.spot.Spot.the-variants.{Top, At}
 use Rattle.format.specs.declared.spot.Next.{Next}
-use Rattle.format.specs.declared.spot.Next.the-variants.{End, Bottom, Child}
+use Rattle.format.specs.declared.spot.Next.the-variants.{Bottom, Child}
 use Rattle.format.specs.Parts.{Contents}
 use Rattle.format.specs.Judge.{adjoinable}
 use Rattle.format.specs.Keeps.{nodes-in, node-in}

@@ -8,7 +8,6 @@ use Rattle.steps.specs.Items.{item-at}
 use Rattle.derivation.specs.Derivations.{Derivation, done, stay, adjoin}
 
 infixr 65 _beside_
-
 -- derivations of two rows, side by side
 abbrev pub _beside_ : Derivation → Derivation → Derivation
 done beside e = e

@@ -58,9 +58,15 @@ pub record Read-off-yes (c : Contents) (m : Meaning) (t : ℕ) (f : Derivation) 
   pub derives : Derives c t f
   pub admitted : Admits m (yield c t f)
 
+abbrev pub Yes-items-read-off : Contents → Meaning → List Item → Type 0
+Yes-items-read-off c m its = (k : ℕ) → k < length its → says-yes c (m .last) (item-at its k) ≡ true → Read-off-yes c m (item-at its k .tree) (derivation-of its k)
+
 abbrev pub Yes-items-are-derived : Type 0
-Yes-items-are-derived = (c : Contents) (m : Meaning) → Keeps c → (its : List Item) → Justified c m its → (k : ℕ) → k < length its
-    → says-yes c (m .last) (item-at its k) ≡ true → Read-off-yes c m (item-at its k .tree) (derivation-of its k)
+Yes-items-are-derived = (c : Contents) (m : Meaning) → Keeps c → (its : List Item) → Justified c m its → Yes-items-read-off c m its
+
+-- The same of the chart that any calls leave.
+abbrev pub Called-yes-items-are-derived : Type 0
+Called-yes-items-are-derived = (c : Contents) (m : Meaning) → Keeps c → (cap : ℕ) (bs : List ℕ) → Yes-items-read-off c m (called c m cap bs .state .items)
 
 -- Yields -------------------------------------------------------------------------------------------------------------------------
 

@@ -1,6 +1,5 @@
 -- The walk through a derivation, which gives both its yield and its certificate.
 use Prim.Native.Nat.{ℕ, suc}
-use mathlib.Core.Path.{_≡_}
 use mathlib.Core.Bool.{Bool, cond}
 use mathlib.Core.List.{List, [], _∷_, _++_}
 use Rattle.format.specs.declared.node.Kind.{Kind}

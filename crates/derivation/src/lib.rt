@@ -1,6 +1,6 @@
 //! Derivations of a grammar, their yields and certificates, and that charts tell of them.
 ghost use Rattle.derivation.specs.Known.{Known-derivations};
-ghost use Rattle.derivation.specs.Theorems.{Accepted-exactly-when-derived, Derivable-items-span, Justified-items-span, Spanned-items-derivable, Spans-exactly-when-admitted, Verdicts-exactly-as-derived, Yes-items-are-derived};
+ghost use Rattle.derivation.specs.Theorems.{Accepted-exactly-when-derived, Called-yes-items-are-derived, Derivable-items-span, Justified-items-span, Spanned-items-derivable, Spans-exactly-when-admitted, Verdicts-exactly-as-derived, Yes-items-are-derived};
 
 /// The known grammar's two derivations: the certificates 0 0 and 0 2, and the yields 1 and 2 1.
 pub fn known_derivations()
@@ -20,6 +20,11 @@ pub fn justified_items_span()
 /// The derivation read off an item that says yes is a derivation of the grammar, with a yield that the source admits.
 pub fn yes_items_are_derived()
     ensures { λ _. ⌜ Yes-items-are-derived ⌝ }
+{}
+
+/// The same of the chart that any calls leave.
+pub fn called_yes_items_are_derived()
+    ensures { λ _. ⌜ Called-yes-items-are-derived ⌝ }
 {}
 
 /// Where the siblings behind the dot of a derivable item have a derivation that spans without a gap, the finished item is derivable.

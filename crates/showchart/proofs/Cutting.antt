@@ -7,9 +7,10 @@ use lib.Seq.{take-append-seam}
 use native.Mathlib.Omega.{arith}
 use Rattle.format.specs.Fields.{Whole}
 use Rattle.format.specs.Parts.{pair}
+use Rattle.showchart.specs.Streams.{Passing, Passed}
 
 -- the passed bytes are the first ones
-passed : (bytes xs later : List ℕ) → bytes ≡ xs ++ later → bytes ≡ take (length bytes - length later) bytes ++ later
+pub passed : (bytes xs later : List ℕ) → bytes ≡ xs ++ later → bytes ≡ take (length bytes - length later) bytes ++ later
 passed bytes xs later e =
     let P : List ℕ → Type 0 = λ b. b ≡ take (length b - length later) b ++ later in
     let n : length (xs ++ later) - length later ≡ length xs = omega (arith, length-append xs later) in
@@ -31,3 +32,9 @@ pub cut-on : (bytes xs rest : List ℕ) (tag : ℕ) (body later : List ℕ) → 
 cut-on bytes xs rest tag body later e w =
     let f = field-of rest tag body later w in
     passed bytes (xs ++ f .0) later (e ∙ (ap (λ (l : List ℕ). xs ++ l) (f .1) ∙ sym (append-assoc xs (f .0) later)))
+
+-- one more field passed
+pub passed-on : (fs : List Passing) (bytes rest : List ℕ) (tag : ℕ) (body later : List ℕ) → Passed fs bytes rest → Whole rest tag body later → (tag ≡ 9 → ⊥)
+    → Passed (fs ++ (record { tag = tag; body = body } ∷ [])) bytes later
+passed-on [] bytes rest tag body later p w n = (later, subst (λ (l : List ℕ). Whole l tag body later) (sym p) w, n, refl)
+passed-on (f ∷ fs) bytes rest tag body later p w n = (p .0, p .1, p .2, passed-on fs (p .0) rest tag body later (p .3) w n)
