@@ -8,4 +8,5 @@ pub mod ReadOff
 pub mod Rows
 pub mod Closed
 pub mod Reach
+pub mod Unique
 pub mod Main

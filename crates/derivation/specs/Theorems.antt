@@ -2,7 +2,7 @@
 use Prim.Native.Nat.{ℕ, _<_}
 use mathlib.Core.Path.{_≡_}
 use mathlib.Core.Bool.{true}
-use mathlib.Core.List.{List, []}
+use mathlib.Core.List.{List, [], _++_}
 use lib.ListN.{length, drop}
 use Rattle.format.specs.Parts.{Contents}
 use Rattle.format.specs.Keeps.{Keeps}
@@ -20,7 +20,7 @@ use Rattle.theory.specs.Theorems.{At-rest}
 use Rattle.theory.specs.Calls.{called}
 use Rattle.theory.specs.Verdicts.{Accepted}
 use Rattle.derivation.specs.Derivations.{Derivation, below, tree-row, Derives}
-use Rattle.derivation.specs.Walks.{yield, Derived}
+use Rattle.derivation.specs.Walks.{yield, certificate, Derived}
 use Rattle.derivation.specs.Spans.{Spans, Means}
 use Rattle.derivation.specs.Readings.{derivation-of}
 
@@ -77,6 +77,17 @@ pub record Spans-as-admitted (c : Contents) (m : Meaning) (t : ℕ) (f : Derivat
 
 abbrev pub Spans-exactly-when-admitted : Type 0
 Spans-exactly-when-admitted = (c : Contents) (m : Meaning) → Keeps c → (t : ℕ) (f : Derivation) → Derives c t f → Spans-as-admitted c m t f
+
+-- Certificates -------------------------------------------------------------------------------------------------------------------
+
+-- Two certificates are equal exactly if they spell the same derivation of the same tree. With anything behind it, a certificate tells where it ends.
+pub record Spelled-apart (c : Contents) (t u : ℕ) (f g : Derivation) : Type 0 where
+  pub same : certificate c t f ≡ certificate c u g → (t ≡ u) × (f ≡ g)
+  pub spelled : (t ≡ u) × (f ≡ g) → certificate c t f ≡ certificate c u g
+  pub ends : (xs ys : List ℕ) → certificate c t f ++ xs ≡ certificate c u g ++ ys → xs ≡ ys
+
+abbrev pub Certificates-determine : Type 0
+Certificates-determine = (c : Contents) → Keeps c → (t u : ℕ) (f g : Derivation) → Derives c t f → Derives c u g → Spelled-apart c t u f g
 
 -- Verdicts -----------------------------------------------------------------------------------------------------------------------
 

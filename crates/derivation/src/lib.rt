@@ -1,6 +1,6 @@
 //! Derivations of a grammar, their yields and certificates, and that charts tell of them.
 ghost use Rattle.derivation.specs.Known.{Known-derivations};
-ghost use Rattle.derivation.specs.Theorems.{Accepted-exactly-when-derived, Called-yes-items-are-derived, Derivable-items-span, Justified-items-span, Spanned-items-derivable, Spans-exactly-when-admitted, Verdicts-exactly-as-derived, Yes-items-are-derived};
+ghost use Rattle.derivation.specs.Theorems.{Accepted-exactly-when-derived, Called-yes-items-are-derived, Certificates-determine, Derivable-items-span, Justified-items-span, Spanned-items-derivable, Spans-exactly-when-admitted, Verdicts-exactly-as-derived, Yes-items-are-derived};
 
 /// The known grammar's two derivations: the certificates 0 0 and 0 2, and the yields 1 and 2 1.
 pub fn known_derivations()
@@ -46,4 +46,9 @@ pub fn accepted_exactly_when_derived()
 /// none has.
 pub fn verdicts_exactly_as_derived()
     ensures { λ _. ⌜ Verdicts-exactly-as-derived ⌝ }
+{}
+
+/// Two certificates are equal exactly if they spell the same derivation, and no certificate begins another.
+pub fn certificates_determine()
+    ensures { λ _. ⌜ Certificates-determine ⌝ }
 {}

@@ -12,8 +12,8 @@ pub struct Stream<'a> {
     pub words: &'a [u8],
 }
 
-/// The bytes before the first field of tag 9, and the body of that field. None where there is no such field, where a field is cut short before it, and where its
-/// body is of odd length.
+/// The bytes before the first field of tag 9, and the body of that field. None where there is no such field, where a field is cut short before it, and where
+/// its body is of odd length.
 pub(crate) fn cut(bytes: &[u8]) -> Option<Stream<'_>>
     ensures { λ r. ⌜ Cut (now (bytes .entry)) r ⌝ }
 {
