@@ -10,3 +10,4 @@ pub mod Closed
 pub mod Reach
 pub mod Unique
 pub mod Main
+pub mod Spelling

@@ -84,7 +84,8 @@ first-of-stay (v-plain e s u v) = (_, _, refl)
 first-of-adjoin : {c : Contents} {t : ℕ} {ks : List Next} {β : ℕ} {r a f : Derivation} → Valid c t ks (adjoin β r a f) → Some-first ks
 first-of-adjoin (v-adjoined e l b u v) = (_, _, refl)
 
-never : {Q : Type 0} → _≡_ {A = ℕ} 0 1 → Q
+-- anything follows from what cannot be
+pub never : {Q : Type 0} → _≡_ {A = ℕ} 0 1 → Q
 never e = absurd (omega arith)
 
 no-first : (ks : List Next) → ks ≡ [] → Some-first ks → _≡_ {A = ℕ} 0 1

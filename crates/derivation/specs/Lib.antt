@@ -4,3 +4,4 @@ pub mod Spans
 pub mod Readings
 pub mod Known
 pub mod Theorems
+pub mod Spelling

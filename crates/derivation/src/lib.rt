@@ -1,5 +1,6 @@
 //! Derivations of a grammar, their yields and certificates, and that charts tell of them.
 ghost use Rattle.derivation.specs.Known.{Known-derivations};
+ghost use Rattle.derivation.specs.Spelling.{Charts-spell-rightly, Known-certificates};
 ghost use Rattle.derivation.specs.Theorems.{Accepted-exactly-when-derived, Called-yes-items-are-derived, Certificates-determine, Derivable-items-span, Justified-items-span, Spanned-items-derivable, Spans-exactly-when-admitted, Verdicts-exactly-as-derived, Yes-items-are-derived};
 
 /// The known grammar's two derivations: the certificates 0 0 and 0 2, and the yields 1 and 2 1.
@@ -51,4 +52,14 @@ pub fn verdicts_exactly_as_derived()
 /// Two certificates are equal exactly if they spell the same derivation, and no certificate begins another.
 pub fn certificates_determine()
     ensures { λ _. ⌜ Certificates-determine ⌝ }
+{}
+
+/// After any calls a chart spells a certificate exactly if its verdict is yes: that of the derivation read off its first item that says yes. The certificate passes.
+pub fn charts_spell_rightly()
+    ensures { λ _. ⌜ Charts-spell-rightly ⌝ }
+{}
+
+/// What the charts of three sentences of the known grammar spell: 0 2 for 2 1, 0 0 for 1, and nothing for 2.
+pub fn known_certificates()
+    ensures { λ _. ⌜ Known-certificates ⌝ }
 {}

@@ -27,7 +27,7 @@ use Rattle.theory.proofs.Budgets.{calls-sum}
 abbrev by-tests : Bool → Bool → Bool → Verdict
 by-tests y f g = cond y Yes (cond f Full (cond g Open No))
 
-tests-yes : (y f g : Bool) → by-tests y f g ≡ Yes → y ≡ true
+pub tests-yes : (y f g : Bool) → by-tests y f g ≡ Yes → y ≡ true
 tests-yes true f g e = refl
 tests-yes false true g e = cc
 tests-yes false false true e = cc
