@@ -1,6 +1,8 @@
 //! Builds a word lattice and a window over it from lines of standard input, and prints what each answers.
 //!
 //! The lines are `lattice LAST CAPACITY`, `edge FROM WORD TO`, `window FROM TO`, `ask FROM WORD TO` and `last`.
+#![tactic(auto)]
+
 mod command;
 mod desk;
 mod reply;

@@ -1,4 +1,6 @@
 //! The chart: items in memory that it owns while it lives, drawn by the steps.
+#![tactic(auto)]
+
 mod adjoining;
 mod asking;
 pub mod chart;

@@ -19,7 +19,7 @@ pub const MOST_ITEMS: usize = 60000;
 
 /// Judges what a chart is to be made of: first the capacity, which is the memory's length, then the source's last position.
 pub fn judge<S: Source>(_grammar: &Grammar, memory: &[Item], source: &S) -> Result<(), Refusal>
-    ensures { result ≡ judged (length memory.now) (meaning source.now).last }
+    ensures { result ≡ judged (length memory.now) (S.meaning source.now).last }
 {
     if memory.is_empty() || memory.len() > MOST_ITEMS {
         return Err(Refusal::Capacity);
@@ -33,7 +33,7 @@ pub fn judge<S: Source>(_grammar: &Grammar, memory: &[Item], source: &S) -> Resu
 impl<'g> Chart<'g> {
     /// A chart over the grammar, with room for as many items as the memory has. What `judge` refuses is made a full chart without items.
     pub fn make<S: Source>(grammar: &'g Grammar, memory: Vec<Item>, source: &S) -> Chart<'g>
-        ensures made { Made (contents_in grammar.now) memory.items (meaning source.now).last result }
+        ensures made { Made (contents_in grammar.now) memory.items (S.meaning source.now).last result }
         ensures grammar { result.grammar.now ≡ grammar.now }
     {
         let last = source.last_position();
@@ -55,7 +55,7 @@ impl<'g> Chart<'g> {
     /// Processes items in order until the budget is spent or none is left, and answers how many are processed and how many are held, both since the making.
     /// Refused on a full chart, and then where the source's last position is not that of the making; a refusal leaves the chart as it was.
     pub fn work<S: Source>(&mut self, budget: u64, source: &S) -> Result<(usize, usize), Refusal>
-        ensures work { WorkDone (meaning source.now) budget self.old self.new result }
+        ensures work { WorkDone (S.meaning source.now) budget self.old self.new result }
         ensures grammar { self.new.grammar.now ≡ self.old.grammar.now }
     {
         if self.store.full {

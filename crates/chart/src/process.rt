@@ -17,8 +17,8 @@ use words::Source;
 
 /// Draws all conclusions with item `t` as a premise and none above it, step by step.
 fn process_item<S: Source>(grammar: &Grammar, source: &S, store: &mut Store, t: usize)
-    requires { ((meaning source.now).last ≤ most_positions) × (t < store.old.held) }
-    ensures { Drawn store.old store.new (conclusions (contents_in grammar.now) (meaning source.now) (held_in store.old) t) }
+    requires { ((S.meaning source.now).last ≤ most_positions) × (t < store.old.held) }
+    ensures { Drawn store.old store.new (conclusions (contents_in grammar.now) (S.meaning source.now) (held_in store.old) t) }
 {
     let item = store.items[t];
     scan_leaf(grammar, source, store, t, &item);
@@ -45,8 +45,8 @@ pub(crate) fn process_items<S: Source>(
     processed: usize,
     budget: u64,
 ) -> usize
-    requires { ((meaning source.now).last ≤ most_positions) × (processed ≤ store.old.held) }
-    ensures work { Worked (contents_in grammar.now) (meaning source.now) store.old store.new processed result budget }
+    requires { ((S.meaning source.now).last ≤ most_positions) × (processed ≤ store.old.held) }
+    ensures work { Worked (contents_in grammar.now) (S.meaning source.now) store.old store.new processed result budget }
     ensures behind { result ≤ store.new.held }
 {
     let mut t = processed;

@@ -58,8 +58,8 @@ fn scanned(x: &Item, position: u8, t: usize) -> Item
 
 /// Scan over each edge with the word.
 fn scan_edges<S: Source>(source: &S, store: &mut Store, t: usize, x: &Item, word: u16)
-    requires { ((meaning source.now).last ≤ most_positions) × (x.now.dot < 8) }
-    ensures { Drawn store.old store.new (scan_word (meaning source.now) t x.now word) }
+    requires { ((S.meaning source.now).last ≤ most_positions) × (x.now.dot < 8) }
+    ensures { Drawn store.old store.new (scan_word (S.meaning source.now) t x.now word) }
 {
     let positions = source.last_position() + 1;
     for k in 0..positions {
@@ -78,8 +78,8 @@ pub(crate) fn scan_leaf<S: Source>(
     t: usize,
     x: &Item,
 )
-    requires { (meaning source.now).last ≤ most_positions }
-    ensures { Drawn store.old store.new (scan (contents_in grammar.now) (meaning source.now) t x.now) }
+    requires { (S.meaning source.now).last ≤ most_positions }
+    ensures { Drawn store.old store.new (scan (contents_in grammar.now) (S.meaning source.now) t x.now) }
 {
     let Next::Child(n) = next(grammar, x) else {
         return;

@@ -1,4 +1,6 @@
 //! Tests of the chart over the known grammar.
+#![tactic(auto)]
+
 #[cfg(test)]
 mod known;
 #[cfg(test)]

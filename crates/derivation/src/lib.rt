@@ -1,4 +1,6 @@
 //! Derivations of a grammar, their yields and certificates, and that charts tell of them.
+#![tactic(auto)]
+
 ghost use Rattle.derivation.specs.Known.{KnownDerivations};
 ghost use Rattle.derivation.specs.Spelling.{ChartsSpellRightly, KnownCertificates};
 ghost use Rattle.derivation.specs.Theorems.{AcceptedExactlyWhenDerived, CalledYesItemsAreDerived, CertificatesDetermine, DerivableItemsSpan, JustifiedItemsSpan, SpannedItemsDerivable, SpansExactlyWhenAdmitted, VerdictsExactlyAsDerived, YesItemsAreDerived};

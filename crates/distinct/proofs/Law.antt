@@ -2,12 +2,11 @@
 use Rattle.std.proofs.Common.{◌≡◌, ℕ, ◌<◌, ◌≤◌, Bool, true, false, cond, ltb, List, [], ◌∷◌, ◌++◌, length, get_or, take, is_some, Some, None, Option, sym, refl, ap, ◌∙◌, subst, ⊎_elim, arith}
 use Rattle.std.proofs.lemmas.List.{length-take, length-take-le, take_all, get_or-take, get_or_at}
 use Rattle.std.proofs.lemmas.Bool.{both_ways, cases_Bool, cases_order, cond-false, le-ltb, ltb-false}
-use Rattle.distinct.specs.declared.Added.{Added}
-use Rattle.distinct.specs.declared.Added.TheVariants.{Held, New, NoRoom}
-use Rattle.distinct.specs.Adding.{first_same, answer_at, answer}
-use Rattle.distinct.specs.Runs.{Listed, held_in, run, begun, has, first_offers, Lawful, RunsAreLawful}
+use Rattle.distinct.specs.declared.Added.TheVariants.{New, NoRoom}
+use Rattle.distinct.specs.Adding.{first_same, answer_at}
+use Rattle.distinct.specs.Runs.{held_in, run, begun, has, first_offers, RunsAreLawful}
 use Rattle.distinct.proofs.Classes.{has_first, Apart, apart_take, first_append}
-use Rattle.distinct.proofs.Offers.{Stored, Chosen, answered, chosen, stored}
+use Rattle.distinct.proofs.Offers.{answered, chosen, stored}
 
 no_room_says : (p : Option ℕ) (n cap : ℕ) → answer_at p n cap ≡ NoRoom → (is_some p ≡ false) × (cap ≤ n)
 no_room_says (Some k) n cap e = let z : ◌≡◌ {A = ℕ} 0 1 = cc in absurd (omega arith)

@@ -1,5 +1,5 @@
 -- Whole runs of a distinct list: it begins empty, and is changed only by adding.
-use Rattle.std.specs.Prelude.{◌≡◌, ℕ, ◌+◌, ◌<◌, ◌≤◌, Bool, true, false, cond, ◌||◌, List, [], ◌∷◌, ◌++◌, length, take, drop, ◌≢◌, slice_index_or}
+use Rattle.std.specs.Prelude.{◌≡◌, ℕ, ◌+◌, ◌<◌, ◌≤◌, Bool, false, cond, ◌||◌, List, [], ◌∷◌, ◌++◌, length, take, drop, ◌≢◌, slice_index_or}
 use Rattle.distinct.specs.declared.Added.{Added}
 use Rattle.distinct.specs.declared.Added.TheVariants.{Held, New, NoRoom}
 use Rattle.distinct.specs.Adding.{answer, memory_after}

@@ -1,4 +1,6 @@
 //! The distinct list: records in a lent slice, of which no two held ones are the same.
+#![tactic(auto)]
+
 ghost use Rattle.std.specs.Prelude.{◌≡◌, ◌+◌, Bool, true, take, drop};
 ghost use Rattle.distinct.specs.Adding.{first_same, answer, memory_after};
 ghost use Rattle.distinct.specs.Runs.{RunsAreLawful};
@@ -31,7 +33,7 @@ pub enum Added {
 
 /// The number of the first of the `held` records that is the same as `offered`.
 pub fn number_of<R: Same>(held: &[R], offered: &R) -> Option<usize>
-    ensures { result ≡ first_same alike 0 held.now offered.now }
+    ensures { result ≡ first_same R.alike 0 held.now offered.now }
 {
     for (k, other) in held.iter().enumerate() {
         if other.same(offered) {
@@ -45,8 +47,8 @@ pub fn number_of<R: Same>(held: &[R], offered: &R) -> Option<usize>
 ///
 /// A list that would hold more records than there is memory has no room, and is left as it is.
 pub fn add<R: Same + Copy>(memory: &mut [R], held: usize, offered: R) -> Added
-    ensures answers { result ≡ answer alike memory.old held offered }
-    ensures after { memory.new ≡ memory_after (answer alike memory.old held offered) memory.old offered }
+    ensures answers { result ≡ answer R.alike memory.old held offered }
+    ensures after { memory.new ≡ memory_after (answer R.alike memory.old held offered) memory.old offered }
     ensures front { take held memory.new ≡ take held memory.old }
     ensures rest { drop (held + 1) memory.new ≡ drop (held + 1) memory.old }
 {
@@ -69,7 +71,7 @@ pub fn add<R: Same + Copy>(memory: &mut [R], held: usize, offered: R) -> Added
 /// In a list begun empty and changed only by `add`, each class of records offered while there was room is held by its
 /// first member, in the order of those first offers, and by no other.
 pub fn runs_are_lawful<R: Same>() -> u8
-    ensures { RunsAreLawful alike }
+    ensures { RunsAreLawful R.alike }
 {
     0
 }

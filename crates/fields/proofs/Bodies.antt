@@ -1,5 +1,5 @@
 -- Reading the nodes of a body one after the other.
-use Rattle.std.proofs.Common.{◌≡◌, ℕ, zero, suc, ◌+◌, ◌-◌, ◌<◌, ◌≤◌, Bool, true, false, cond, ◌&&◌, eqb, List, [], ◌∷◌, ◌++◌, length, get_or, take, drop, replicate, Some, None, Ok, Err, Option, Result, sym, refl, ap, ◌∙◌, subst, append_assoc, append-nil, arith, length-append, take_all, drop-cons, eq-eqb, ne_eqb}
+use Rattle.std.proofs.Common.{◌≡◌, ℕ, zero, suc, ◌-◌, ◌<◌, ◌≤◌, false, ◌&&◌, eqb, List, [], ◌∷◌, ◌++◌, length, get_or, take, drop, replicate, Some, None, Ok, Err, Option, Result, sym, refl, ap, ◌∙◌, append_assoc, append-nil, arith, length-append, take_all, drop-cons, eq-eqb, ne_eqb}
 use Rattle.format.specs.declared.node.Kind.{Kind}
 use Rattle.format.specs.declared.node.Kind.TheVariants.{Inner, Word, Empty, Foot}
 use Rattle.format.specs.declared.node.Form.{Form}
@@ -7,7 +7,7 @@ use Rattle.format.specs.declared.node.Form.TheVariants.{Initial, Auxiliary}
 use Rattle.format.specs.declared.node.Node.{Node}
 use Rattle.format.specs.Trees.{Entry, entry, plain_node}
 use Rattle.format.specs.Judge.{entries, entry_or, entry_before, kind_of, arity, arities, feet_right}
-use Rattle.format.specs.Ends.{bare, bares, fresh, freshes}
+use Rattle.format.specs.Ends.{bares, fresh, freshes}
 use Rattle.format.specs.Parts.{pair, feet, feet_before, no_node}
 
 -- entries in front of what is read later

@@ -1,13 +1,12 @@
 -- Closing subtrees from the last node to the first: the nodes behind a node are laid out as the row that was planted so far.
-use Rattle.std.proofs.Common.{◌≡◌, ℕ, zero, suc, ◌+◌, ◌-◌, ◌<◌, ◌≤◌, Bool, true, false, cond, eqb, ltb, List, [], ◌∷◌, ◌++◌, length, get_or, take, drop, set, Some, None, Option, sym, refl, ap, ◌∙◌, subst, append_assoc, arith, length-append, length-drop, length-set, take-append-drop, drop_of_length-le, drop-cons, get_or-take, get_or-set_same, take-take, drop-drop, drop-set-lt, le-ltb, lt-ltb, eqb-true}
-use lib.Seq.{drop-append_seam, drop-length, take-set-le}
+use Rattle.std.proofs.Common.{◌≡◌, ℕ, zero, suc, ◌+◌, ◌<◌, Bool, true, false, eqb, List, [], ◌∷◌, ◌++◌, length, get_or, take, drop, set, Some, None, sym, refl, ap, ◌∙◌, subst, arith, length-set, take-append-drop, drop_of_length-le, drop-cons, get_or-take, get_or-set_same, take-take, drop-set-lt, eqb-true}
+use lib.Seq.{drop-length, take-set-le}
 use borrow.Author.Tests.{eqb-false}
-use Rattle.format.specs.declared.node.Kind.{Kind}
 use Rattle.format.specs.declared.node.Node.{Node}
-use Rattle.format.specs.Trees.{Row, none, node, trees_in, size, ◌⊕◌, Entry, entry, flatten, Parted, short, parted, before, part, adopt, plant_before, plant, alone, lay, plain_node}
+use Rattle.format.specs.Trees.{Row, none, node, trees_in, size, Entry, Parted, short, parted, part, adopt, plant_before, plant, alone, lay, plain_node}
 use Rattle.format.specs.Ends.{past, bare, bares, fresh, freshes, Closed}
 use Rattle.format.proofs.Planted.{part_is}
-use Rattle.format.proofs.Laying.{length_lay, lay_beside, read_at, past_part, past_is}
+use Rattle.format.proofs.Laying.{length_lay, lay_beside, past_part, past_is}
 use Rattle.format.specs.Parts.{no_node}
 
 -- Nodes from number i on are closed, those before are as they were read.

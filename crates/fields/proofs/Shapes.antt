@@ -1,17 +1,15 @@
 -- What the code's tests on the nodes of one tree say of its judgement.
-use Rattle.std.proofs.Common.{◌≡◌, ℕ, zero, suc, ◌+◌, ◌-◌, ◌<◌, ◌≤◌, Bool, true, false, cond, List, [], ◌∷◌, ◌++◌, Some, None, Ok, Err, Option, Result, sym, refl, ap, ◌∙◌, subst, arith}
-use Rattle.format.specs.declared.node.Kind.{Kind}
+use Rattle.std.proofs.Common.{◌≡◌, ℕ, Bool, true, false, cond, List, [], ◌∷◌, Some, None, Ok, Err, Option, Result, sym, refl, ap, ◌∙◌}
 use Rattle.format.specs.declared.node.Kind.TheVariants.{Inner, Word, Empty, Foot}
 use Rattle.format.specs.declared.node.Node.{Node}
 use Rattle.format.specs.declared.node.Form.{Form}
-use Rattle.format.specs.declared.fault.Refusal.{Refusal}
 use Rattle.format.specs.declared.fault.Rule.TheVariants as broken
-use Rattle.format.specs.Trees.{Row, none, node, trees_in, size, Entry, entry, flatten, plant, alone, lay, plain_node}
-use Rattle.format.specs.Judge.{refusal, refuse, arities, one_tree, inner_root, feet_right, root_label, judge_feet, judge_shape}
-use Rattle.format.specs.Ends.{bare, bares, fresh, freshes}
+use Rattle.format.specs.Trees.{Row, none, node, Entry, flatten, plant, alone, lay}
+use Rattle.format.specs.Judge.{refusal, arities, one_tree, inner_root, feet_right, root_label, judge_feet, judge_shape}
+use Rattle.format.specs.Ends.{bares, freshes}
 use Rattle.fields.specs.Reading.{judge_nodes}
 use Rattle.format.proofs.Planted.{flatten_plant}
-use Rattle.format.proofs.Laying.{bares_++, bares_lay}
+use Rattle.format.proofs.Laying.{bares_lay}
 use Rattle.format.specs.Parts.{feet}
 
 pub bares_freshes : (es : List Entry) → bares (freshes es) ≡ es

@@ -1,17 +1,13 @@
 -- What a reader's answer says of a judgement; want of memory apart.
-use Rattle.std.specs.Prelude.{◌≡◌, ℕ, zero, suc, ◌+◌, ◌-◌, ◌*◌, ◌<◌, ◌≤◌, Bool, true, false, cond, List, [], ◌∷◌, ◌++◌, Some, None, Ok, Err, vec_items, Option, Result}
+use Rattle.std.specs.Prelude.{◌≡◌, ℕ, List, Some, None, Ok, Err, vec_items, Option, Result}
 use Rattle.format.specs.declared.node.Node.{Node}
-use Rattle.format.specs.declared.node.Form.{Form}
 use Rattle.fields.specs.declared.stop.Stop.{Stop}
 use Rattle.fields.specs.declared.stop.Stop.TheVariants.{Broken, OutOfMemory}
 use Rattle.format.specs.declared.fault.Refusal.{Refusal}
-use Rattle.format.specs.declared.fault.Rule.{Rule}
 use Rattle.format.specs.declared.fault.Rule.TheVariants as broken
 use Rattle.format.specs.Trees.{Row, Entry, lay}
-use Rattle.format.specs.Judge.{refusal, refuse, feet_right, root_label, one_tree}
-use Rattle.format.specs.Ends.{freshes}
+use Rattle.format.specs.Judge.{refusal, root_label}
 use Rattle.fields.specs.declared.tree.Planted.{Planted}
-use Rattle.format.specs.Parts.{feet}
 
 -- An answer with the value x agrees with a judgement by what is asked of x.
 abbrev pub Agrees : {X Y : Type 0} → Result Y Refusal → (X → Y → Type 0) → Result X Stop → Type 0

@@ -1,4 +1,6 @@
 //! Reading fields, and the tree of a tree field.
+#![tactic(auto)]
+
 mod body;
 pub mod field;
 mod shape;

@@ -1,22 +1,21 @@
 -- One more constraint of a description is one more adjoining field.
-use Rattle.std.proofs.Common.{◌≡◌, ℕ, zero, suc, ◌+◌, ◌<◌, ◌≤◌, Bool, true, false, ◌⊎◌, List, [], ◌∷◌, ◌++◌, length, get_or, set, is_some, Some, None, Option, sym, refl, ap, ◌∙◌, subst, inl, inr, arith}
+use Rattle.std.proofs.Common.{◌≡◌, ℕ, suc, ◌<◌, true, false, List, [], ◌∷◌, ◌++◌, length, get_or, set, is_some, None, sym, refl, ap, ◌∙◌, subst, inl, inr, arith}
 use Rattle.std.specs.List.{AllByRecursion as All}
 use Rattle.format.specs.declared.stage.Phase.{Phase}
 use Rattle.format.specs.declared.stage.Phase.TheVariants.{Adjoinings}
 use Rattle.format.specs.declared.node.Kind.{Kind}
 use Rattle.format.specs.declared.node.Obligation.{Obligation}
 use Rattle.format.specs.declared.node.Obligation.TheVariants.{Optional, Obligatory}
-use Rattle.format.specs.declared.node.Form.TheVariants.{Auxiliary}
 use Rattle.format.specs.declared.node.Constraint.{Constraint}
 use Rattle.format.specs.declared.node.Node.{Node}
 use Rattle.format.specs.declared.node.Tree.{Tree}
 use Rattle.format.specs.Trees.{size}
-use Rattle.format.specs.Parts.{no_tree, no_node, label_of_kind, slot, constrained}
+use Rattle.format.specs.Parts.{no_node, label_of_kind, slot, constrained}
 use Rattle.format.specs.Judge.{State, with_nodes, constraint_of}
-use Rattle.format.specs.Format.{Elementary, as_row, preorder, tree_at, kind_at, sizes, trees_from, laid_out, Adjoining, Adjoinable, Takes, CanMeet, AdjoiningRules, Apart, constrain_all, obligation_byte, constraint_by}
+use Rattle.format.specs.Format.{Elementary, as_row, preorder, tree_at, kind_at, trees_from, laid_out, Adjoining, Adjoinable, Takes, CanMeet, AdjoiningRules, Apart, constrain_all, obligation_byte, constraint_by}
 use Rattle.format.proofs.Cases.{nothing}
 use Rattle.format.proofs.Taken.{Listed, Choice, ConstraintTaken}
-use Rattle.format.proofs.Placed.{before, placed, length_trees_from, length_laid_out, tree_placed, slot_is, within, one_place, length_flatten, laid_out_bare}
+use Rattle.format.proofs.Placed.{length_trees_from, length_laid_out, tree_placed, slot_is, within, one_place, length_flatten, laid_out_bare}
 use Rattle.format.proofs.Constrained.{constrain_all_more, kind_placed, all_set, none_other}
 
 -- what has been read of a description, when so many trees and constraints have

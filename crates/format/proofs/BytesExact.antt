@@ -1,19 +1,18 @@
 -- Bytes are read exactly when they are fields that lead to the table.
-use Rattle.std.proofs.Common.{◌≡◌, ℕ, zero, suc, ◌+◌, ◌-◌, ◌<◌, ◌≤◌, Bool, true, false, cond, leb, List, [], ◌∷◌, ◌++◌, length, take, drop, Ok, Err, Result, sym, refl, ap, ◌∙◌, subst, arith, length-append, length-drop, take-append-drop, length-take-le, take_at, drop_at, le-leb, leb-true}
+use Rattle.std.proofs.Common.{◌≡◌, ℕ, zero, suc, ◌+◌, ◌≤◌, Bool, true, false, cond, leb, List, [], ◌∷◌, ◌++◌, length, take, drop, Ok, Err, Result, sym, refl, ap, ◌∙◌, arith, length-append, length-drop, take-append-drop, length-take-le, take_at, drop_at, leb-true}
 use Rattle.std.proofs.lemmas.Bool.{cond-true}
 use Rattle.format.specs.declared.stage.Phase.{Phase}
 use Rattle.format.specs.declared.stage.Phase.TheVariants.{Start, Trees, Adjoinings}
 use Rattle.format.specs.declared.fault.Refusal.{Refusal}
 use Rattle.format.specs.declared.fault.Fault.{Fault}
 use Rattle.format.specs.declared.fault.Rule.TheVariants as broken
-use Rattle.format.specs.Judge.{State, contents, fault, judge, judge_from, judge_end, judge_field, at_place, nothing_read, some_initial}
+use Rattle.format.specs.Judge.{State, contents, fault, judge_from, judge_end, judge_field, at_place, nothing_read, some_initial}
 use Rattle.format.specs.Fields.{Whole}
 use Rattle.format.proofs.Cases.{nothing, never}
 use Rattle.format.proofs.FieldExact.{field_exact}
 use Rattle.format.proofs.Walks.{skipped, whole_field, in_size}
 use Rattle.format.specs.Parts.{Contents, pair}
 use Rattle.format.proofs.Chains.{FieldOf, Chain, Begun, GrammarBytes, BytesExact}
-use Rattle.format.specs.Format.{IsField}
 
 ends : (s : State) (place : ℕ) (u : Contents) → judge_end s.phase s place ≡ Ok u → (contents s ≡ u) × Begun s.phase × (some_initial s.trees ≡ true)
 ends s place u h = at s.phase h

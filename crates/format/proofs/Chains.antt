@@ -1,5 +1,5 @@
 -- Bytes as fields one behind the other, each taken by what was read before it.
-use Rattle.std.proofs.Common.{◌≡◌, ℕ, zero, suc, ◌+◌, ◌<◌, ◌≤◌, Bool, true, false, List, [], ◌∷◌, ◌++◌, length, Ok}
+use Rattle.std.proofs.Common.{◌≡◌, ℕ, ◌≤◌, true, List, [], ◌∷◌, length, Ok}
 use Rattle.format.specs.declared.stage.Phase.{Phase}
 use Rattle.format.specs.declared.stage.Phase.TheVariants.{Start, Trees, Adjoinings}
 use Rattle.format.specs.Judge.{State, contents, judge, nothing_read, some_initial, add_tree}
@@ -7,7 +7,7 @@ use Rattle.format.specs.declared.node.Form.TheVariants.{Initial, Auxiliary}
 use Rattle.format.specs.declared.stage.Tag.{Tag}
 use Rattle.format.specs.declared.stage.Tag.TheVariants as tags
 use Rattle.format.specs.Format.{IsField, Elementary, as_row}
-use Rattle.format.specs.Parts.{Contents, pair}
+use Rattle.format.specs.Parts.{Contents}
 use Rattle.format.proofs.Taken.{HeaderTaken, ConstraintTaken, TreeBody}
 
 -- the tag byte of a field

@@ -1,14 +1,14 @@
 -- The constraints of a description, one after the other, and what the table then says of its nodes.
-use Rattle.std.proofs.Common.{◌≡◌, ℕ, zero, suc, ◌+◌, ◌<◌, ◌≤◌, Bool, true, false, ◌⊎◌, List, [], ◌∷◌, ◌++◌, length, get_or, set, is_some, Some, None, Option, sym, refl, ap, ◌∙◌, subst, inl, inr, arith, length-set, get_or-set_other, get_or-set_same}
+use Rattle.std.proofs.Common.{◌≡◌, ℕ, zero, suc, ◌<◌, true, ◌⊎◌, List, [], ◌∷◌, ◌++◌, length, get_or, set, is_some, Some, None, sym, refl, ap, ◌∙◌, subst, inl, inr, arith, length-set, get_or-set_other, get_or-set_same}
 use Rattle.std.proofs.lemmas.Bool.{cases_eq}
 use Rattle.std.specs.List.{AllByRecursion as All}
 use Rattle.format.specs.declared.node.Node.{Node}
 use Rattle.format.specs.declared.node.Tree.{Tree}
 use Rattle.format.specs.declared.node.Constraint.{Constraint}
 use Rattle.format.specs.Trees.{Entry, size}
-use Rattle.format.specs.Parts.{no_tree, no_node, slot, constrained}
+use Rattle.format.specs.Parts.{no_node, slot, constrained}
 use Rattle.format.specs.Ends.{bare, bares}
-use Rattle.format.specs.Format.{Elementary, as_row, preorder, no_entry, tree_at, kind_at, trees_from, laid_out, Adjoining, constrain, constrain_all, constraint_by}
+use Rattle.format.specs.Format.{Elementary, as_row, no_entry, tree_at, kind_at, trees_from, laid_out, Adjoining, constrain, constrain_all, constraint_by}
 use Rattle.format.proofs.Placed.{slot_is, entry_placed, getD_bares}
 
 abbrev at : List Tree → Adjoining → ℕ

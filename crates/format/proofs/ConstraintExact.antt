@@ -1,6 +1,6 @@
 -- Header and adjoining fields are taken exactly by their rules.
-use Rattle.std.proofs.Common.{◌≡◌, ℕ, zero, suc, ◌+◌, ◌-◌, ◌<◌, ◌≤◌, Bool, true, false, cond, not, ◌&&◌, eqb, ltb, leb, ◌⊎◌, List, [], ◌∷◌, ◌++◌, length, get_or, set, is_some, Some, None, Ok, Err, Option, Result, sym, refl, ap, ◌∙◌, subst, inl, inr, arith, ltb-true, lt-ltb, eq-eqb, eqb-true, le-leb, leb-true}
-use borrow.Author.Tests.{not_true}
+use Rattle.std.proofs.Common.{◌≡◌, ℕ, suc, Bool, true, false, cond, not, ◌&&◌, eqb, ltb, leb, ◌⊎◌, List, [], ◌∷◌, length, get_or, set, is_some, Some, None, Ok, Err, Option, Result, sym, refl, ap, ◌∙◌, inl, inr, arith, ltb-true, lt-ltb, eq-eqb, eqb-true, le-leb, leb-true}
+use borrow.Author.Tests.{not-true}
 use Rattle.std.proofs.lemmas.Bool.{and_parts, and_from, cond-true, cases_eq, not_from_false}
 use Rattle.format.specs.declared.node.Kind.{Kind}
 use Rattle.format.specs.declared.node.Kind.TheVariants.{Inner, Word, Empty, Foot}
@@ -137,7 +137,7 @@ module _ (s : State) (t n p : ℕ) (bs : List ℕ) where
         ltb-true t (length s.trees) a.0,
         ltb-true n (get_or s.trees t no_tree).size b.0,
         adjoinable_is v.kind o.0,
-        none_from v.constraint (not_true (is_some v.constraint) o.1),
+        none_from v.constraint (not-true (is_some v.constraint) o.1),
         choice_is p bs r.0,
         listed_is s.trees (label_of_kind v.kind) 0 bs r.1,
         let e : u ≡ with_nodes s nodes_then = cc in e,

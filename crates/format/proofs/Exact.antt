@@ -1,16 +1,15 @@
 -- A tree field is taken exactly when its body is the preorder of one tree by the rules.
-use Rattle.std.proofs.Common.{◌≡◌, ℕ, zero, suc, ◌+◌, ◌-◌, ◌*◌, ◌/◌, ◌%◌, ◌<◌, ◌≤◌, Bool, true, false, cond, ◌&&◌, eqb, ltb, leb, List, [], ◌∷◌, ◌++◌, length, Some, None, Ok, Err, Option, Result, sym, refl, ap, ◌∙◌, subst, arith, ltb-true, lt-ltb, eq-eqb, eqb-true, le-leb, leb-true}
+use Rattle.std.proofs.Common.{◌≡◌, ℕ, suc, ◌*◌, ◌%◌, ◌<◌, ◌≤◌, Bool, true, false, cond, eqb, ltb, leb, List, [], ◌∷◌, length, Some, None, Ok, Err, Option, Result, sym, refl, ap, ◌∙◌, subst, arith, ltb-true, lt-ltb, eq-eqb, eqb-true, le-leb, leb-true}
 use Rattle.std.specs.List.{AllByRecursion as All}
 use Rattle.std.proofs.lemmas.Bool.{and_parts, and_from, cond-true}
 use Rattle.format.specs.declared.node.Kind.{Kind}
 use Rattle.format.specs.declared.node.Kind.TheVariants.{Inner, Word, Empty, Foot}
 use Rattle.format.specs.declared.node.Form.{Form}
 use Rattle.format.specs.declared.node.Form.TheVariants.{Initial, Auxiliary}
-use Rattle.format.specs.Trees.{Row, none, node, trees_in, size, Entry, entry, flatten, plant, alone}
-use Rattle.format.specs.Judge.{State, named, kind_of, entries, entry_or, entry_before, arity, arities, one_tree, inner_root, feet_right, root_label}
+use Rattle.format.specs.Trees.{Entry, entry}
+use Rattle.format.specs.Judge.{named, kind_of, entries, entry_or, entry_before, arity, arities, feet_right}
 use Rattle.format.specs.Format.{code_of, name_of, Spells, Named, Arity, Footed}
-use Rattle.format.proofs.Planted.{plant_flatten}
-use Rattle.format.specs.Parts.{pair, feet}
+use Rattle.format.specs.Parts.{pair}
 
 nothing : {X : Type 0} → ◌≡◌ {A = ℕ} 0 1 → X
 nothing z = elim (let f : ⊥ = omega arith in f) [ ]

@@ -1,13 +1,12 @@
 -- A field is taken exactly by the rules for its tag.
-use Rattle.std.proofs.Common.{◌≡◌, ℕ, zero, suc, Bool, true, false, cond, eqb, List, [], ◌∷◌, Some, None, Ok, Err, Option, sym, refl, ap, ◌∙◌, subst, arith, eqb-true}
+use Rattle.std.proofs.Common.{◌≡◌, ℕ, Bool, true, false, cond, eqb, List, Some, None, Ok, Option, sym, refl, ap, ◌∙◌, eqb-true}
 use Rattle.format.specs.declared.node.Form.TheVariants.{Initial, Auxiliary}
 use Rattle.format.specs.declared.stage.Tag.{Tag}
 use Rattle.format.specs.declared.stage.Tag.TheVariants as tags
 use Rattle.format.specs.declared.stage.Phase.{Phase}
 use Rattle.format.specs.declared.stage.Phase.TheVariants.{Start, Trees, Adjoinings}
 use Rattle.format.specs.declared.fault.Rule.TheVariants as broken
-use Rattle.format.specs.Judge.{State, refusal, tag_of, judge_body, judge_tagged, judge_field, add_tree}
-use Rattle.format.specs.Format.{as_row}
+use Rattle.format.specs.Judge.{State, refusal, tag_of, judge_body, judge_tagged, judge_field}
 use Rattle.format.proofs.Cases.{never}
 use Rattle.format.proofs.TreeExact.{tree_exact}
 use Rattle.format.proofs.ConstraintExact.{header_exact, constraint_exact}

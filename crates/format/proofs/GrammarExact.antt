@@ -1,5 +1,5 @@
 -- The judgement takes exactly the bytes that are a grammar, and every list of bytes is one grammar or has one fault.
-use Rattle.std.proofs.Common.{◌≡◌, ℕ, zero, suc, ◌+◌, ◌<◌, ◌≤◌, Bool, true, false, cond, not, ◌||◌, ◌⊎◌, List, [], ◌∷◌, ◌++◌, length, get_or, Ok, Err, Result, sym, refl, ap, ◌∙◌, subst, inl, inr, append_assoc, append-nil, arith, length-append}
+use Rattle.std.proofs.Common.{◌≡◌, ℕ, zero, suc, ◌+◌, ◌<◌, ◌≤◌, true, not, ◌||◌, ◌⊎◌, List, [], ◌∷◌, ◌++◌, length, Ok, Err, Result, sym, refl, ap, ◌∙◌, subst, inl, inr, append_assoc, append-nil, arith, length-append}
 use Rattle.std.specs.List.{AllByRecursion as All}
 use Rattle.format.specs.declared.fault.Fault.{Fault}
 use Rattle.format.specs.declared.stage.Phase.{Phase}
@@ -13,11 +13,11 @@ use Rattle.format.specs.declared.node.Node.{Node}
 use Rattle.format.specs.Trees.{size, lay}
 use Rattle.format.specs.Parts.{Contents, pair}
 use Rattle.format.specs.Judge.{State, contents, nothing_read, judge, some_initial, is_auxiliary, add_tree}
-use Rattle.format.specs.Format.{Elementary, as_row, preorder, TreeRules, tree_at, sizes, trees_from, laid_out, Adjoining, AdjoiningRules, Apart, Once, Description, Rules, IsField, Spells, HeaderField, tree_tag, TreeFields, AdjoiningFields, Spelled, constrain_all, contents_of, IsGrammar}
-use Rattle.format.specs.Exactness.{JudgedExactly, HasFault, OneGrammar, OneFault, OneOrOther}
+use Rattle.format.specs.Format.{Elementary, as_row, preorder, TreeRules, tree_at, sizes, trees_from, laid_out, Adjoining, AdjoiningRules, Apart, Once, Description, Rules, IsField, Spells, tree_tag, TreeFields, AdjoiningFields, Spelled, contents_of, IsGrammar}
+use Rattle.format.specs.Exactness.{JudgedExactly, OneGrammar, OneFault, OneOrOther}
 use Rattle.format.proofs.Cases.{nothing}
 use Rattle.format.proofs.Taken.{TreeBody, ConstraintTaken}
-use Rattle.format.proofs.Chains.{number_of, BodyTaken, FieldTaken, FieldOf, Chain, Begun, GrammarBytes}
+use Rattle.format.proofs.Chains.{number_of, BodyTaken, FieldTaken, FieldOf, Chain, Begun}
 use Rattle.format.proofs.BytesExact.{bytes_exact}
 use Rattle.format.proofs.Placed.{placed, length_trees_from, length_laid_out, trees_from_more, laid_out_more, sizes_more}
 use Rattle.format.proofs.AdjoiningSteps.{reached, body_of, one_more, taken_more}

@@ -1,8 +1,8 @@
 -- A grammar with a description by the rules keeps the rules as the table has them.
-use Rattle.std.proofs.Common.{◌≡◌, ℕ, zero, suc, ◌+◌, ◌-◌, ◌<◌, ◌≤◌, Bool, true, false, ◌||◌, ◌⊎◌, List, [], ◌∷◌, ◌++◌, length, get_or, take, drop, set, replicate, is_some as option_is_some, Some, None, Option, sym, refl, ap, ◌∙◌, subst, inl, inr, arith, length-append, length-drop, length-set, length-take-le, get_or-drop, take_all, get_or-set_other, get_or-take, get_or-set_same}
+use Rattle.std.proofs.Common.{◌≡◌, ℕ, zero, suc, ◌+◌, ◌<◌, ◌≤◌, Bool, true, false, ◌||◌, ◌⊎◌, List, [], ◌∷◌, ◌++◌, length, get_or, take, drop, set, replicate, is_some as option_is_some, Some, None, Option, sym, refl, ap, ◌∙◌, subst, inl, inr, arith, length-set, get_or-drop, take_all, get_or-set_other, get_or-take, get_or-set_same}
 use native.Mathlib.Decide.{dec_lt}
 use lib.ListN.{get_or-eq_default}
-use lib.Seq.{drop-append-le, take-append-le, drop-append_seam}
+use lib.Seq.{take-append-le}
 use Rattle.std.specs.List.{AllByRecursion as All}
 use Rattle.std.proofs.lemmas.Bool.{cases_eq}
 use Rattle.format.specs.declared.node.Kind.{Kind}
@@ -14,15 +14,15 @@ use Rattle.format.specs.declared.node.Obligation.TheVariants.{Optional, Obligato
 use Rattle.format.specs.declared.node.Constraint.{Constraint}
 use Rattle.format.specs.declared.node.Node.{Node}
 use Rattle.format.specs.declared.node.Tree.{Tree}
-use Rattle.format.specs.Trees.{Row, none, node, trees_in, size, Entry, entry, flatten, lay, plain_node}
+use Rattle.format.specs.Trees.{Row, none, node, trees_in, size, Entry, lay, plain_node}
 use Rattle.format.specs.Parts.{Contents, no_tree, no_node, label_of_kind, feet_before, feet, no_list, mark, constrained, slot}
-use Rattle.format.specs.Judge.{is_auxiliary, some_initial, adjoinable}
+use Rattle.format.specs.Judge.{is_auxiliary, adjoinable}
 use Rattle.format.specs.Ends.{bare, bares}
 use Rattle.format.specs.Layout.{pass, Nested}
 use Rattle.format.specs.Format.{Elementary, as_row, preorder, Named, Arity, Footed, TreeRules, no_entry, tree_at, kind_at, sizes, trees_from, laid_out, Adjoining, Adjoinable, Takes, CanMeet, AdjoiningRules, Description, Rules, constrain, constrain_all, constraint_by, contents_of, Described, name_of}
 use Rattle.format.specs.Keeps.{tree_in, nodes_in, node_in, is_inner, is_foot, is_optional, may_stay, taken_trees, lists, any, foot_of, foot_count, least_name, most_name, feet_due, Keeps}
 use Rattle.format.proofs.Cases.{nothing}
-use Rattle.format.proofs.Laying.{length_lay, bares_++, bares_lay}
+use Rattle.format.proofs.Laying.{length_lay, bares_lay}
 use Rattle.format.proofs.Layouts.{all_nested}
 use Rattle.format.proofs.Placed.{before, placed, length_trees_from, length_laid_out, tree_placed, slot_is, within, one_place, length_flatten, getD_bares, laid_out_bare}
 use Rattle.format.proofs.Constrained.{length_constrain_all}

@@ -1,12 +1,10 @@
 -- How a row of trees lies in a table.
-use Rattle.std.proofs.Common.{◌≡◌, ℕ, zero, suc, ◌+◌, ◌-◌, ◌<◌, ◌≤◌, Bool, true, false, cond, eqb, ltb, List, [], ◌∷◌, ◌++◌, length, get_or, take, drop, set, Some, None, Option, sym, refl, ap, ◌∙◌, subst, append_assoc, arith, length-append, length-drop, length-set, take-append-drop, drop_of_length-le, drop-cons, get_or-take, get_or-set_same, take-take, drop-drop, drop-set-lt, le-ltb, lt-ltb, eqb-true}
-use lib.Seq.{drop-append_seam, drop-length, take-set-le}
-use borrow.Author.Tests.{eqb-false}
+use Rattle.std.proofs.Common.{◌≡◌, ℕ, zero, suc, ◌+◌, ◌<◌, ◌≤◌, Bool, cond, List, [], ◌∷◌, ◌++◌, length, get_or, drop, Some, None, Option, sym, refl, ap, ◌∙◌, append_assoc, arith, length-append, drop-drop, le-ltb, lt-ltb}
+use lib.Seq.{drop-append_seam}
 use Rattle.format.specs.declared.node.Kind.{Kind}
 use Rattle.format.specs.declared.node.Node.{Node}
-use Rattle.format.specs.Trees.{Row, none, node, trees_in, size, ◌⊕◌, Entry, entry, flatten, Parted, short, parted, before, part, adopt, plant_before, plant, alone, lay, plain_node}
-use Rattle.format.specs.Ends.{past, bare, bares, fresh, freshes, Closed}
-use Rattle.format.proofs.Planted.{part_is}
+use Rattle.format.specs.Trees.{Row, none, node, trees_in, size, ◌⊕◌, Entry, entry, flatten, Parted, short, parted, before, part, lay, plain_node}
+use Rattle.format.specs.Ends.{past, bare, bares}
 use Rattle.format.specs.Parts.{no_node}
 
 pub length_lay : (i : ℕ) (r : Row) → length (lay i r) ≡ size r

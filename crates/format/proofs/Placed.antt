@@ -1,14 +1,13 @@
 -- Where the trees of a description have their nodes in the table.
-use Rattle.std.proofs.Common.{◌≡◌, ℕ, zero, suc, ◌+◌, ◌-◌, ◌<◌, ◌≤◌, List, [], ◌∷◌, ◌++◌, length, get_or, take, drop, None, sym, refl, ap, ◌∙◌, subst, append_assoc, append-nil, arith, length-append}
+use Rattle.std.proofs.Common.{◌≡◌, ℕ, zero, suc, ◌+◌, ◌<◌, ◌≤◌, List, [], ◌∷◌, ◌++◌, length, get_or, None, sym, refl, ap, ◌∙◌, append_assoc, append-nil, arith, length-append}
 use native.Mathlib.Decide.{dec_lt}
 use lib.ListN.{get_or-append}
-use Rattle.format.specs.declared.node.Kind.{Kind}
 use Rattle.format.specs.declared.node.Node.{Node}
 use Rattle.format.specs.declared.node.Tree.{Tree}
-use Rattle.format.specs.Trees.{Row, none, node, trees_in, size, Entry, entry, flatten, lay, plain_node}
+use Rattle.format.specs.Trees.{Row, none, node, size, Entry, flatten, lay}
 use Rattle.format.specs.Parts.{no_tree, no_node, slot}
 use Rattle.format.specs.Ends.{bare, bares}
-use Rattle.format.specs.Format.{Elementary, as_row, preorder, no_elementary, no_entry, tree_at, kind_at, sizes, trees_from, laid_out}
+use Rattle.format.specs.Format.{Elementary, as_row, preorder, no_entry, tree_at, sizes, trees_from, laid_out}
 use Rattle.format.proofs.Laying.{length_lay, bares_++, bares_lay}
 
 -- the tree of the table for a tree of the description whose nodes begin at i

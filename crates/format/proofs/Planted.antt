@@ -1,7 +1,6 @@
 -- Planting and flattening are inverse: child counts make at most one row of trees, and its preorder is where they came from.
-use Rattle.std.proofs.Common.{◌≡◌, ℕ, zero, suc, ◌+◌, ◌<◌, ◌≤◌, List, [], ◌∷◌, ◌++◌, Some, None, Option, sym, refl, ap, ◌∙◌, subst, append_assoc, append-nil, arith}
-use Rattle.format.specs.declared.node.Kind.{Kind}
-use Rattle.format.specs.Trees.{Row, none, node, trees_in, size, ◌⊕◌, Entry, entry, flatten, Parted, short, parted, before, part, adopt, plant_before, plant}
+use Rattle.std.proofs.Common.{◌≡◌, ℕ, zero, suc, List, [], ◌∷◌, ◌++◌, Some, None, Option, sym, refl, ap, ◌∙◌, append_assoc, append-nil, arith}
+use Rattle.format.specs.Trees.{Row, none, node, trees_in, ◌⊕◌, Entry, entry, flatten, Parted, short, parted, before, part, adopt, plant_before, plant}
 
 pub beside_none : (r : Row) → r ⊕ none ≡ r
 beside_none none = refl

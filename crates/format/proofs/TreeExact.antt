@@ -1,14 +1,13 @@
 -- A tree field is taken exactly when its body is the preorder of one tree by the rules.
-use Rattle.std.proofs.Common.{◌≡◌, ℕ, zero, suc, ◌+◌, ◌-◌, ◌*◌, ◌/◌, ◌%◌, ◌<◌, ◌≤◌, Bool, true, false, cond, ◌&&◌, eqb, ltb, leb, List, [], ◌∷◌, ◌++◌, length, Some, None, Ok, Err, Option, Result, sym, refl, ap, ◌∙◌, subst, arith, length-append, ltb-true, eqb-true, leb-true}
+use Rattle.std.proofs.Common.{◌≡◌, ℕ, suc, ◌+◌, ◌/◌, ◌%◌, Bool, true, false, cond, eqb, ltb, leb, List, length, Some, None, Ok, Err, Option, Result, sym, refl, ap, ◌∙◌, subst, arith, length-append, ltb-true, eqb-true, leb-true}
 use Rattle.std.proofs.lemmas.Bool.{and_parts, cond-true}
-use Rattle.format.specs.declared.node.Kind.{Kind}
 use Rattle.format.specs.declared.node.Kind.TheVariants.{Inner, Word, Empty, Foot}
 use Rattle.format.specs.declared.node.Form.{Form}
 use Rattle.format.specs.declared.fault.Refusal.{Refusal}
 use Rattle.format.specs.declared.fault.Rule.TheVariants as broken
-use Rattle.format.specs.Trees.{Row, none, node, trees_in, size, Entry, entry, flatten, plant, alone}
+use Rattle.format.specs.Trees.{Row, none, node, size, Entry, flatten, plant, alone}
 use Rattle.format.specs.Judge.{State, refuse, refusal, entries, arities, one_tree, inner_root, feet_right, root_label, judge_feet, judge_shape, judge_tree, added, add_tree, whole_nodes, room}
-use Rattle.format.specs.Format.{Elementary, as_row, preorder, TreeRules, Spells, Named}
+use Rattle.format.specs.Format.{Elementary, as_row, preorder, Spells, Named}
 use Rattle.std.specs.List.{AllByRecursion as All}
 use Rattle.format.proofs.Planted.{plant_flatten, flatten_plant}
 use Rattle.format.proofs.Cases.{nothing, never, passes}

@@ -1,5 +1,5 @@
 -- A tree field whose body has whole nodes and that finds room is judged by its shape.
-use Rattle.std.proofs.Common.{◌≡◌, ℕ, ◌+◌, ◌/◌, ◌%◌, ◌<◌, ◌≤◌, cond, ◌&&◌, eqb, ltb, leb, List, length, Result, ◌∙◌, lt-ltb, eq-eqb, le-leb}
+use Rattle.std.proofs.Common.{◌≡◌, ℕ, ◌+◌, ◌/◌, ◌%◌, ◌<◌, ◌≤◌, cond, eqb, ltb, leb, List, length, Result, ◌∙◌, lt-ltb, eq-eqb, le-leb}
 use Rattle.std.proofs.lemmas.Bool.{and_from, cond-true}
 use Rattle.format.specs.declared.node.Form.{Form}
 use Rattle.format.specs.declared.fault.Refusal.{Refusal}

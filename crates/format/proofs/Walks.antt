@@ -1,9 +1,8 @@
 -- Field after field: what is left of the bytes is judged as the whole was.
-use Rattle.std.proofs.Common.{◌≡◌, ℕ, zero, suc, ◌+◌, ◌-◌, ◌<◌, ◌≤◌, Bool, true, false, cond, ◌&&◌, eqb, ltb, leb, List, [], ◌∷◌, ◌++◌, length, take, drop, Ok, Err, Result, sym, refl, ap, ◌∙◌, subst, arith, length-drop, length-take-le, le-leb}
+use Rattle.std.proofs.Common.{◌≡◌, ℕ, zero, suc, ◌+◌, ◌-◌, ◌<◌, ◌≤◌, leb, List, [], ◌∷◌, length, take, drop, Ok, Err, Result, sym, refl, ap, ◌∙◌, arith, length-drop, le-leb}
 use borrow.Author.Tests.{lt-leb}
 use Rattle.std.proofs.lemmas.Bool.{cond-true, cond-false}
 use Rattle.format.specs.declared.fault.Refusal.{Refusal}
-use Rattle.format.specs.declared.fault.Fault.{Fault}
 use Rattle.format.specs.declared.fault.Rule.TheVariants as broken
 use Rattle.format.specs.Judge.{State, nothing_read, fault, judge, judge_from, judge_end, judge_field, at_place}
 use Rattle.format.specs.Fields.{Short, Whole}

@@ -1,7 +1,7 @@
 -- Subtrees one behind the other, by the numbers past them.
-use Rattle.std.specs.Prelude.{◌≡◌, ℕ, zero, suc, ◌+◌, ◌-◌, ◌*◌, ◌<◌, ◌≤◌, Bool, true, false, cond, List, [], ◌∷◌, ◌++◌, length, Some, None, Option, nat_lt, slice_index_or}
+use Rattle.std.specs.Prelude.{◌≡◌, ℕ, zero, suc, Bool, true, false, cond, List, [], ◌∷◌, length, Some, None, Option, nat_lt, slice_index_or}
 use Rattle.format.specs.declared.node.Node.{Node}
-use Rattle.format.specs.Trees.{Row, none, node, Entry, entry, plant, alone, lay, plain_node}
+use Rattle.format.specs.Trees.{Row, Entry, entry, plant, alone, lay, plain_node}
 use Rattle.format.specs.Parts.{no_node}
 
 -- the number past the n subtrees that begin at number i

@@ -1,5 +1,5 @@
 -- What bytes are a grammar, in the format's own words.
-use Rattle.std.specs.Prelude.{◌≡◌, ℕ, zero, suc, ◌+◌, ◌<◌, ◌≤◌, List, [], ◌∷◌, ◌++◌, length, get_or, ◌≢◌, slice_index_or, slice_set}
+use Rattle.std.specs.Prelude.{◌≡◌, ℕ, suc, ◌+◌, ◌<◌, ◌≤◌, List, [], ◌∷◌, ◌++◌, length, get_or, ◌≢◌, slice_index_or, slice_set}
 use Rattle.std.specs.List.{AllByRecursion as All}
 use Rattle.format.specs.declared.node.Kind.{Kind}
 use Rattle.format.specs.declared.node.Kind.TheVariants.{Inner, Word, Empty, Foot}
@@ -11,7 +11,7 @@ use Rattle.format.specs.declared.node.Constraint.{Constraint}
 use Rattle.format.specs.declared.node.Node.{Node}
 use Rattle.format.specs.declared.node.Tree.{Tree}
 use Rattle.format.specs.Trees.{Row, none, node, size, Entry, entry, flatten, lay}
-use Rattle.format.specs.Parts.{Contents, no_tree, no_node, pair, label_of_kind, feet, no_list, mark, constrained, slot}
+use Rattle.format.specs.Parts.{Contents, no_node, pair, label_of_kind, feet, no_list, mark, constrained, slot}
 
 -- Elementary trees ------------------------------------------------------------------------------------------------------
 

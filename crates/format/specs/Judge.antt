@@ -1,6 +1,6 @@
 -- The one fault of bytes that are no grammar, and the table of those that are one, by the order of judgement:
 -- the number of bytes first, then field by field the first of the rules that is broken, and last that there is an initial tree.
-use Rattle.std.specs.Prelude.{◌≡◌, ℕ, zero, suc, ◌+◌, ◌-◌, ◌*◌, ◌/◌, ◌%◌, ◌<◌, ◌≤◌, Bool, true, false, cond, not, ◌&&◌, ◌||◌, List, [], ◌∷◌, ◌++◌, length, get_or, take, set, is_some, Some, None, Ok, Err, Option, Result, ◌==◌, nat_le, nat_lt, slice_index_or, slice_set}
+use Rattle.std.specs.Prelude.{ℕ, zero, suc, ◌+◌, ◌/◌, ◌%◌, Bool, true, false, cond, not, ◌&&◌, ◌||◌, List, [], ◌∷◌, ◌++◌, length, get_or, take, is_some, Some, None, Ok, Err, Option, Result, ◌==◌, nat_le, nat_lt, slice_index_or, slice_set}
 use Rattle.format.specs.declared.node.Kind.{Kind}
 use Rattle.format.specs.declared.node.Kind.TheVariants.{Inner, Word, Empty, Foot}
 use Rattle.format.specs.declared.node.Node.{Node}
@@ -19,7 +19,7 @@ use Rattle.format.specs.declared.fault.Rule.TheVariants as broken
 use Rattle.format.specs.declared.fault.Refusal.{Refusal}
 use Rattle.format.specs.declared.fault.Fault.{Fault}
 use Rattle.format.specs.Parts.{Contents, no_tree, no_node, pair, label_of_kind, feet, no_list, mark, constrained, slot}
-use Rattle.format.specs.Trees.{Row, none, node, trees_in, size, Entry, entry, flatten, plant, alone, lay, plain_node}
+use Rattle.format.specs.Trees.{Row, none, node, size, Entry, entry, plant, alone, lay}
 
 -- What has been read so far.
 pub record State : Type 0 where

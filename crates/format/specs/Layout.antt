@@ -1,5 +1,5 @@
 -- What a laid out tree gives the layers above: children one behind the other, each with its whole subtree.
-use Rattle.std.specs.Prelude.{◌≡◌, ℕ, zero, suc, ◌+◌, ◌<◌, ◌≤◌, List, [], ◌∷◌, length, slice_index_or}
+use Rattle.std.specs.Prelude.{◌≡◌, ℕ, zero, suc, ◌<◌, ◌≤◌, List, length, slice_index_or}
 use Rattle.format.specs.declared.node.Node.{Node}
 use Rattle.format.specs.Parts.{no_node}
 

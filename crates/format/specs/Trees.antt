@@ -1,7 +1,6 @@
 -- Ordered trees, and how a file has them: each node with the number of its children, followed by the children's subtrees in order.
-use Rattle.std.specs.Prelude.{◌≡◌, ℕ, zero, suc, ◌+◌, ◌<◌, ◌≤◌, Bool, true, false, cond, ◌&&◌, eqb, ltb, leb, List, [], ◌∷◌, ◌++◌, Some, None, Option}
+use Rattle.std.specs.Prelude.{ℕ, zero, suc, ◌+◌, List, [], ◌∷◌, ◌++◌, Some, None, Option}
 use Rattle.format.specs.declared.node.Kind.{Kind}
-use Rattle.format.specs.declared.node.Kind.TheVariants.{Inner, Word, Empty, Foot}
 use Rattle.format.specs.declared.node.Node.{Node}
 
 -- A row of ordered trees: none, or a first node over the row of its children, and then the row of its later siblings.

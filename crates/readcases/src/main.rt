@@ -1,5 +1,7 @@
 //! Reads the bytes of each case of standard input as a grammar, and prints what the reading answers. A case is a line: its name, and then its bytes as
 //! tokens, each of hexadecimal digits, or of a number, `*` and digits that are repeated so often.
+#![tactic(auto)]
+
 use std::io;
 use std::io::{BufRead, BufReader};
 

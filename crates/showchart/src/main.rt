@@ -2,6 +2,8 @@
 //!
 //! The input is a grammar and then a field of tag 9, whose body is words of two bytes each, the high byte first; a word 0 ends a sentence. What stands behind
 //! that field is not read. An input without such a field, with an odd body or cut short prints `stream`. Bytes that are no grammar print the one line of their fault.
+#![tactic(auto)]
+
 use grammar::grammar::Grammar;
 use grammar::read::ReadError;
 use std::io;

@@ -1,5 +1,7 @@
 //! Prints the grammar that standard input holds: its counts, then each tree with its nodes, indented by depth. Bytes that are no grammar print the one
 //! line of their fault.
+#![tactic(auto)]
+
 use grammar::grammar::Grammar;
 use grammar::read::ReadError;
 use std::io;

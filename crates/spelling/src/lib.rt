@@ -1,2 +1,4 @@
 //! Spelling the certificate of a closed chart.
+#![tactic(auto)]
+
 pub mod refusal;

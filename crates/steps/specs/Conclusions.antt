@@ -13,7 +13,6 @@ use Rattle.format.specs.Keeps.{node_in, is_foot, may_stay, lists}
 use Rattle.format.specs.Questions.{after_dot, may_start, listing}
 use Rattle.words.specs.Meaning.{Meaning}
 use Rattle.steps.specs.declared.item.Item.{Item}
-use Rattle.steps.specs.declared.item.Origin.{Origin}
 use Rattle.steps.specs.declared.item.Origin.TheVariants.{Start, Scan, Predict, Complete, AdjoinPredict, FootPredict, FootComplete, AdjoinComplete}
 use Rattle.steps.specs.Items.{same_spot, joined, fresh, moved, item_at}
 use Rattle.steps.specs.Orders.{upto, PairStep, TripleStep, pairs, triples}

@@ -1,14 +1,12 @@
 -- Known sentences of the known grammar.
-use Rattle.std.specs.Prelude.{◌≡◌, ℕ, suc, Bool, true, false, cond, ◌&&◌, ◌||◌, List, [], ◌∷◌, length, slice_set}
+use Rattle.std.specs.Prelude.{◌≡◌, ℕ, Bool, true, false, List, [], ◌∷◌, length, slice_set}
 use Rattle.format.specs.declared.node.Kind.TheVariants.{Inner, Word, Foot}
 use Rattle.format.specs.declared.node.Form.TheVariants.{Initial, Auxiliary}
 use Rattle.format.specs.declared.node.Obligation.TheVariants.{Obligatory}
 use Rattle.format.specs.Trees.{plain_node}
 use Rattle.format.specs.Parts.{Contents, no_list, constrained}
 use Rattle.format.specs.Known.{known_contents}
-use Rattle.words.specs.Meaning.{Meaning}
 use Rattle.words.specs.Rows.{row_of}
-use Rattle.steps.specs.declared.item.Item.{Item}
 use Rattle.steps.specs.Runs.{Working, made, worked, goes_on}
 use Rattle.steps.specs.Verdicts.{yes_in}
 

@@ -1,5 +1,5 @@
 -- What a chart says of its sentence.
-use Rattle.std.specs.Prelude.{ℕ, Bool, true, false, cond, ◌&&◌, ◌||◌, List, [], ◌∷◌, ◌==◌}
+use Rattle.std.specs.Prelude.{ℕ, Bool, false, cond, ◌&&◌, ◌||◌, List, [], ◌∷◌, ◌==◌}
 use Rattle.format.specs.Parts.{Contents}
 use Rattle.format.specs.Questions.{may_start}
 use Rattle.steps.specs.declared.item.Item.{Item}

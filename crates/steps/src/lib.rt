@@ -1,4 +1,6 @@
 //! Items and the steps that conclude them: what a chart holds, by definition.
+#![tactic(auto)]
+
 pub mod item;
 pub mod sameness;
 pub mod verdict;

@@ -1,4 +1,6 @@
 //! The steps as a deduction system, that a chart holds what it derives, and what calls that work on a chart leave of it.
+#![tactic(auto)]
+
 ghost use Rattle.theory.specs.Calls.{CallsAddUp, EqualCharts, MostExists};
 ghost use Rattle.theory.specs.Theorems.{ConclusionsAreTheSteps, DerivableAreConcluded, HeldAreDerivable, HeldAreJustified, RestingHoldAll};
 ghost use Rattle.theory.specs.Verdicts.{CalledVerdictsAreRight, VerdictsAreRight};

@@ -1,4 +1,6 @@
 //! Walking through the trees of a derivation, by a guide that makes the choices.
+#![tactic(auto)]
+
 pub mod choice;
 pub mod guide;
 pub mod machine;

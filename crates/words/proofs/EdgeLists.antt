@@ -1,5 +1,5 @@
 -- Lists of edges that keep the bounds of their lattice, and what adding an edge does to them.
-use Rattle.std.proofs.Common.{◌≡◌, ℕ, ◌+◌, ◌<◌, ◌≤◌, Bool, true, false, cond, ◌&&◌, ◌||◌, eqb, ltb, leb, List, [], ◌∷◌, ◌++◌, length, take, set, is_ok, Some, None, Ok, Err, vec_items, vec_len, Result, sym, refl, ap, ◌∙◌, arith}
+use Rattle.std.proofs.Common.{◌≡◌, ℕ, ◌+◌, ◌≤◌, Bool, true, false, cond, ◌&&◌, ◌||◌, eqb, List, [], ◌∷◌, ◌++◌, length, take, set, is_ok, Some, None, Err, vec_items, vec_len, Result, sym, refl, ap, ◌∙◌, arith}
 use Rattle.std.specs.Vec.{with_items}
 use Rattle.std.proofs.lemmas.List.{take_more_set}
 use Rattle.std.proofs.lemmas.Bool.{and_parts, and_from, eqb-true, eq-eqb, cond-true}
@@ -11,7 +11,7 @@ use Rattle.distinct.proofs.Adds.{taken, has_after, lent_at, new_at}
 use Rattle.words.specs.declared.edge.Edge.{Edge}
 use Rattle.words.specs.declared.lattice.Lattice.{Lattice}
 use Rattle.words.specs.declared.refusal.Refusal.{Refusal}
-use Rattle.words.specs.declared.refusal.Refusal.TheVariants.{OutOfBounds, ListFull}
+use Rattle.words.specs.declared.refusal.Refusal.TheVariants.{OutOfBounds}
 use Rattle.words.specs.Edges.{edge_of, edge_within, same_edge, in_bounds, all_inside, edges_mean}
 use Rattle.words.specs.Lattices.{list_of, lattice_meaning, numbered, edge_answer, list_after, Gains}
 

@@ -1,6 +1,5 @@
 -- Paths split and join.
-use Rattle.std.proofs.Common.{◌≡◌, ℕ, List, [], ◌∷◌, ◌++◌, sym, refl, subst}
-use Rattle.words.specs.Meaning.{Meaning}
+use Rattle.std.proofs.Common.{[], ◌∷◌, sym, refl, subst}
 use Rattle.words.specs.Paths.{Path, PathsSplit, PathsSplitAtWord, PathsJoin}
 
 pub split : PathsSplit

@@ -1,8 +1,8 @@
 -- A row without zeros admits its own words and no others.
-use Rattle.std.proofs.Common.{◌≡◌, ℕ, zero, suc, ◌+◌, ◌<◌, ◌≤◌, Bool, true, false, cond, not, ◌&&◌, eqb, ltb, leb, List, [], ◌∷◌, length, get_or, drop, sym, refl, ap, ◌∙◌, subst, arith}
+use Rattle.std.proofs.Common.{◌≡◌, ℕ, ◌+◌, ◌<◌, ◌≤◌, not, eqb, ltb, leb, List, [], ◌∷◌, length, get_or, drop, sym, refl, ap, ◌∙◌, subst, arith}
 use Rattle.std.proofs.lemmas.List.{drop_all, drop_more, length-drop}
 use Rattle.std.proofs.lemmas.Bool.{and_from, lt-ltb, le-leb, eq-eqb, ne_eqb, not_from_false, cond-true}
-use Rattle.words.specs.Meaning.{Meaning, greatest_last, nothing}
+use Rattle.words.specs.Meaning.{greatest_last, nothing}
 use Rattle.words.specs.Paths.{Path, Admits}
 use Rattle.words.specs.Rows.{row_of, row_meaning, AdmitsItsWords}
 use Rattle.words.specs.Bounds.{row_edge}

@@ -1,5 +1,5 @@
 -- Word lattices: what one means, and what adding an edge does.
-use Rattle.std.specs.Prelude.{◌≡◌, ℕ, Bool, true, cond, ◌&&◌, ◌||◌, List, take, is_ok, Ok, Err, vec_items, Result}
+use Rattle.std.specs.Prelude.{◌≡◌, ℕ, Bool, cond, ◌&&◌, ◌||◌, Ok, Err, vec_items, Result}
 use Rattle.distinct.specs.declared.Added.{Added}
 use Rattle.distinct.specs.declared.Added.TheVariants.{Held, New, NoRoom}
 use Rattle.distinct.specs.Adding.{answer}

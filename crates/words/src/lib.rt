@@ -1,4 +1,6 @@
 //! Sources of words: a last position and a set of edges, each with a word, that lead from one position to a later one.
+#![tactic(auto)]
+
 pub mod edge;
 pub mod lattice;
 pub mod lattices;

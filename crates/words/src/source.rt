@@ -26,8 +26,8 @@ pub trait Source {
 ///
 /// Its contract also names what the paths of every source do: they split at each word, and they join.
 pub fn admits_empty<S: Source>(source: &S) -> bool
-    ensures value { result ≡ ((meaning source.now).last == 0) }
-    ensures admits { (result ≡ true → Admits (meaning source.now) []) × (Admits (meaning source.now) [] → result ≡ true) }
+    ensures value { result ≡ ((S.meaning source.now).last == 0) }
+    ensures admits { (result ≡ true → Admits (S.meaning source.now) []) × (Admits (S.meaning source.now) [] → result ≡ true) }
     ensures empty { EmptyAtZero }
     ensures splits { PathsSplit }
     ensures splits_at_word { PathsSplitAtWord }

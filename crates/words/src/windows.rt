@@ -10,7 +10,7 @@ use crate::window::Window;
 
 /// Judges whether there is a window from the position `from` to the position `to` of `source`.
 pub fn judge_window<S: Source>(source: &S, from: u32, to: u32) -> Result<(), Refusal>
-    ensures { result ≡ judged_window (meaning source.now).last from to }
+    ensures { result ≡ judged_window (S.meaning source.now).last from to }
 {
     if from > to || to > source.last_position() {
         return Err(Refusal::OutOfBounds);
@@ -25,7 +25,7 @@ impl<'a, S: Source> Window<'a, S> {
     /// Its contract also names two facts of all windows: one over the whole of a source means what the source means, and a
     /// window over a window is a window.
     pub fn new(source: &'a S, from: u32, to: u32) -> Window<'a, S>
-        ensures means { MeansTheSame (part_of (meaning result.source.now) result.first result.last) (window_meaning (meaning source.now) from to) }
+        ensures means { MeansTheSame (part_of (S.meaning result.source.now) result.first result.last) (window_meaning (S.meaning source.now) from to) }
         ensures whole { WholeMeansTheSame }
         ensures nested { WindowOfWindow }
     {
@@ -45,9 +45,9 @@ impl<'a, S: Source> Window<'a, S> {
 }
 
 impl<S: Source> Source for Window<'_, S> {
-    ghost meaning = { λ w. part_of (S.Source.meaning w.source.now) w.first w.last };
+    ghost meaning = { λ w. part_of (S.meaning w.source.now) w.first w.last };
 
-    ghost bounded = { λ w. part_bounded (S.Source.meaning w.source.now) w.first w.last (S.Source.bounded w.source.now) };
+    ghost bounded = { λ w. part_bounded (S.meaning w.source.now) w.first w.last (S.bounded w.source.now) };
 
     fn last_position(&self) -> u32 {
         self.last

@@ -1,4 +1,4 @@
-use Rattle.std.proofs.Common.{◌≡◌, ℕ, suc, ◌+◌, Bool, ◌&&◌, drop, sym, refl, ap, ◌∙◌, add-one, drop_of_length-le}
+use Rattle.std.proofs.Common.{ℕ, suc, Bool, ◌&&◌, drop, sym, ap, ◌∙◌, add-one, drop_of_length-le}
 use Rattle.format.specs.Judge.{arities}
 use Rattle.format.specs.Ends.{bares}
 use Rattle.fields.proofs.Bodies.{arities_at}

@@ -1,4 +1,4 @@
-use Rattle.std.proofs.Common.{◌≡◌, ℕ, suc, ◌+◌, ◌≤◌, Bool, ◌&&◌, List, [], ◌∷◌, ◌++◌, get_or, drop, replicate, sym, refl, ap, ◌∙◌, add-one, arith, drop_of_length-le}
+use Rattle.std.proofs.Common.{ℕ, suc, ◌+◌, Bool, List, [], ◌∷◌, ◌++◌, get_or, drop, replicate, sym, ap, ◌∙◌, add-one, arith, drop_of_length-le}
 use Rattle.format.specs.declared.node.Kind.{Kind}
 use Rattle.format.specs.declared.node.Form.{Form}
 use Rattle.format.specs.declared.node.Node.{Node}
@@ -8,15 +8,15 @@ use Rattle.fields.proofs.Bodies.{feet_at, no_foot, wrong_foot, one_more_foot, in
 use Rattle.fields.proofs.body.feet_right.Goals as goal
 use Rattle.format.specs.Parts.{feet, feet_before, no_node}
 
-pub loop-node-preserved-in-default : goal.loop-node-preserved-in-default
-loop-node-preserved-in-default c =
+pub loop-node-preserved-in_default : goal.loop-node-preserved-in_default
+loop-node-preserved-in_default c =
     let ns = c.args.nodes.now in
     let i = c.loop-node.node-index in
     let front : List ℕ = replicate c.loop-node.feet c.args.label in
     let E : List ℕ → Bool = λ fs. feet_right c.args.form c.args.label (front ++ fs) in (
       omega (arith, c.loop-node.invariant.0),
       ap (λ (n : ℕ). E (feet (bares (drop n ns)))) (add-one i)
-          ∙ (ap E (sym (feet_at ns i c.loop-node-test.true ∙ no_foot (get_or ns i no_node).kind (feet (bares (drop (suc i) ns))) c.in-default.not-Foot))
+          ∙ (ap E (sym (feet_at ns i c.loop-node-test.true ∙ no_foot (get_or ns i no_node).kind (feet (bares (drop (suc i) ns))) c.in_default.not-Foot))
           ∙ c.loop-node.invariant.1),
     )
 

@@ -17,9 +17,9 @@ stops_here bytes s d rest tag body later stops.OutOfMemory in_bounds w h e = tt
 
 pub returns-in-Err : goal.returns-in-Err
 returns-in-Err c =
-    rw c.at-place.ensures
+    rw c.at_place.ensures
     (stops_here c.args.bytes.now (state c.loop-rest.draft) c.field.new.self c.loop-rest.rest.now
-    c.in-Some.field.tag c.in-Some.field.body.now c.in-Some.field.rest.now c.in-Err.stop c.if-bytes-gt-MOST-BYTES.false c.loop-rest.invariant c.in-Some.ensures c.in-Err.ensures)
+    c.in-Some.field.tag c.in-Some.field.body.now c.in-Some.field.rest.now c.in-Err.stop c.if-bytes-gt-MOST_BYTES.false c.loop-rest.invariant c.in-Some.ensures c.in-Err.ensures)
 
 pub loop-rest-smaller : goal.loop-rest-smaller
 loop-rest-smaller c = shorter_now c.loop-rest.rest.now c.in-Some.field.tag c.in-Some.field.body.now c.in-Some.field.rest.now c.in-Some.ensures

@@ -15,7 +15,7 @@ pub returns : goal.returns
 returns c =
     let d = c.args.self.now in
     let s = state d in
-    let e = c.in-default-adjoin.ensures.answers in
+    let e = c.in_default-adjoin.ensures.answers in
     let same = e.1 in
     let trees-are : vec_items c.adjoin.new.self.trees ≡ vec_items d.table.trees = cc in
     in_parts s c.args.body.now (omega (arith, ltb-false)) ∙ (ap (adjoined s) e.0

@@ -31,22 +31,22 @@ returns-then-number-nodes c =
     sym (no_root vs (get_or vs c.args.node no_node).children c.args.number (suc c.args.node)
     (subst (λ (us : List Node). (get_or us c.args.node no_node).children ≤ c.args.number) c.nodes-nodes.ensures c.if-number-nodes.true))
 
-pub nth-subtree-requires : goal.nth-subtree-requires
-nth-subtree-requires c k l =
+pub nth_subtree-requires : goal.nth_subtree-requires
+nth_subtree-requires c k l =
     let g = c.args.self.now in
     child_there (contents_in g) g.ends g.within c.args.tree c.args.node k c.nodes-nodes.result.now c.nodes-nodes.ensures c.if-n-nodes.false (let m = c.if-number-nodes.false in omega arith)
 
-pub overflow-cast-result : goal.overflow-cast-result
-overflow-cast-result c =
+pub overflow_cast-result : goal.overflow_cast-result
+overflow_cast-result c =
     let g = c.args.self.now in
     let a = child_there (contents_in g) g.ends g.within c.args.tree c.args.node c.args.number c.nodes-nodes.result.now c.nodes-nodes.ensures c.if-n-nodes.false c.if-number-nodes.false in
     let b = few_nodes (contents_in g) g.few c.args.tree in
-    omega (arith, c.nth-subtree.ensures, ap length c.nodes-nodes.ensures)
+    omega (arith, c.nth_subtree.ensures, ap length c.nodes-nodes.ensures)
 
 pub returns : goal.returns
 returns c =
     let vs = nodes_in (contents_in c.args.self.now) c.args.tree in
     let n = c.args.node in
     let k = c.args.number in
-    ap Some (c.nth-subtree.ensures ∙ (ap (λ (us : List Node). pass us k (n + 1)) c.nodes-nodes.ensures ∙ ap (pass vs k) (add-one n)))
+    ap Some (c.nth_subtree.ensures ∙ (ap (λ (us : List Node). pass us k (n + 1)) c.nodes-nodes.ensures ∙ ap (pass vs k) (add-one n)))
     ∙ sym (nth_root vs (get_or vs n no_node).children k (suc n) (subst (λ (us : List Node). k < (get_or us n no_node).children) c.nodes-nodes.ensures c.if-number-nodes.false))

@@ -9,8 +9,8 @@ use Rattle.grammar.proofs.Questions.{few_nodes}
 use Rattle.grammar.proofs.Listings.{first_++, first_none, next_tree, no_more}
 use Rattle.grammar.proofs.grammar.Grammar.next_listing.Goals as goal
 
-pub first-listing-requires : goal.first-listing-requires
-first-listing-requires c =
+pub first_listing-requires : goal.first_listing-requires
+first_listing-requires c =
     let g = c.args.self.now in
     let a = few_nodes (contents_in g) g.few c.loop-tree.tree in
     omega (arith, ap length c.nodes.ensures)
@@ -32,7 +32,7 @@ loop-tree-preserved c =
     let t = c.loop-tree.tree in
     let n = c.loop-tree.node in
     let none : None ≡ first (listing_nodes b t n (drop n (nodes_in d t)))
-    = c.in-default.ensures ∙ ap (λ (vs : List Node). first (listing_nodes b t n (drop n vs))) c.nodes.ensures in
+    = c.in_default.ensures ∙ ap (λ (vs : List Node). first (listing_nodes b t n (drop n vs))) c.nodes.ensures in
     ap (λ (k : ℕ). first (listing_from d b k 0)) (add-one t)
     ∙ (ap first (sym (next_tree d b t))
     ∙ (sym (first_none (listing_nodes b t n (drop n (nodes_in d t))) (listing_trees d b (length d.trees - suc t) (suc t)) none) ∙ c.loop-tree.invariant))

@@ -21,11 +21,31 @@ faults : (bytes : List ℕ) (e : ReadError) → Reads (judge bytes) (Err e) → 
 faults bytes (Faulty f) h = (h, λ c g. never_both bytes f c h g)
 faults bytes OutOfMemory h = (tt, tt)
 
-pub invariant-of-result : goal.invariant-of-result
-invariant-of-result c =
+pub invariant_of-result : goal.invariant_of-result
+invariant_of-result c =
     let g = (judged_exactly c.args.bytes.now (contents (state c.in-Ok.draft))).0 c.in-Ok.ensures in
     let k = keeps (contents (state c.in-Ok.draft)) (g.description, g.rules, g.holds) in
-    (∣ (g.description, g.rules, g.holds) ∣₁, (k.few, (k.initial, (k.whole, (k.roots, (k.ends, (k.subtrees, (k.children, (k.child_within, (k.inner_arity, (k.leaf_arity, (k.names, (k.feet, (k.foot_labels, (k.constraints, (k.listed_there, (k.listed_auxiliary, (k.listed_labels, (k.obligations, tt)))))))))))))))))))
+    record {
+      rules = ∣ (g.description, g.rules, g.holds) ∣₁;
+      few = k.few;
+      initial = k.initial;
+      whole = k.whole;
+      roots = k.roots;
+      ends = k.ends;
+      subtrees = k.subtrees;
+      children = k.children;
+      within = k.child_within;
+      inner = k.inner_arity;
+      leaves = k.leaf_arity;
+      names = k.names;
+      feet = k.feet;
+      footing = k.foot_labels;
+      constraints = k.constraints;
+      listed = k.listed_there;
+      auxiliary = k.listed_auxiliary;
+      agreeing = k.listed_labels;
+      obligations = k.obligations;
+    }
 
 pub returns-in-Ok : goal.returns-in-Ok
 returns-in-Ok c = record { judged = c.in-Ok.ensures; exact = (judged_exactly c.args.bytes.now (contents (state c.in-Ok.draft))).0 c.in-Ok.ensures }

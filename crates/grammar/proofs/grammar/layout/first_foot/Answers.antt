@@ -24,7 +24,7 @@ loop-n-preserved c =
     let vs = c.args.nodes.now in
     let n = c.loop-n.n in
     ap (λ (k : ℕ). foot_from k (drop k vs)) (add-one n)
-    ∙ (sym (foot_here vs n c.loop-n-test.true ∙ ap (λ (b : Bool). cond b (Some n) (foot_from (suc n) (drop (suc n) vs))) (no_foot (get_or vs n no_node).kind c.in-default.not-Foot)) ∙ c.loop-n.invariant)
+    ∙ (sym (foot_here vs n c.loop-n-test.true ∙ ap (λ (b : Bool). cond b (Some n) (foot_from (suc n) (drop (suc n) vs))) (no_foot (get_or vs n no_node).kind c.in_default.not-Foot)) ∙ c.loop-n.invariant)
 
 pub returns : goal.returns
 returns c = sym (ap (foot_from c.loop-n.n) (drop_of_length-le c.args.nodes.now c.loop-n-test.false)) ∙ c.loop-n.invariant

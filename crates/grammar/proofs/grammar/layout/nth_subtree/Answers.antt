@@ -8,4 +8,4 @@ pub loop-subtree-preserved : goal.loop-subtree-preserved
 loop-subtree-preserved c =
     let vs = c.args.nodes.now in
     ap (λ (i : ℕ). (get_or vs i no_node).end) c.loop-subtree.invariant
-    ∙ (sym (pass_more vs c.loop-subtree.-subtree c.args.first) ∙ ap (λ (k : ℕ). pass vs k c.args.first) (sym (add-one c.loop-subtree.-subtree)))
+    ∙ (sym (pass_more vs c.loop-subtree._subtree c.args.first) ∙ ap (λ (k : ℕ). pass vs k c.args.first) (sym (add-one c.loop-subtree._subtree)))

@@ -3,4 +3,4 @@ use Rattle.format.specs.Layout.{pass}
 use Rattle.grammar.proofs.grammar.layout.nth_subtree.Given as goal
 
 abbrev pub invariant-loop-subtree : goal.invariant-loop-subtree
-invariant-loop-subtree l = l.at ≡ pass l.nodes l.-subtree l.first
+invariant-loop-subtree l = l.at ≡ pass l.nodes l._subtree l.first

@@ -12,26 +12,26 @@ abbrev OneAt : List Node → List Node → ℕ → ℕ → List ℕ → Type 0
 OneAt ns ms i p bs =
     ((get_or ms i no_node).constraint ≡ Some (constraint_of p bs)) × (length ms ≡ length ns) × ((k : ℕ) → (k ≡ i → ⊥) → get_or ms k no_node ≡ get_or ns k no_node)
 
-pub returns-in-default : goal.returns-in-default
-returns-in-default c =
+pub returns-in_default : goal.returns-in_default
+returns-in_default c =
     let d = c.args.self.now in
     record {
       answers = (
-        not_found (vec_items d.trees) c.as-slice.result.now (vec_items d.nodes) c.as-slice-2.result.now c.args.tree c.args.node 0 c.args.choice c.args.list.now
-            c.as-slice.ensures.value c.as-slice-2.ensures.value c.in-default.ensures,
+        not_found (vec_items d.trees) c.as_slice.result.now (vec_items d.nodes) c.as_slice-2.result.now c.args.tree c.args.node 0 c.args.choice c.args.list.now
+            c.as_slice.ensures.value c.as_slice-2.ensures.value c.in_default.ensures,
         refl,
         refl,
       );
       touches = tt;
     }
 
-pub returns-then-not-needs-met : goal.returns-then-not-needs-met
-returns-then-not-needs-met c =
+pub returns-then-not-needs_met : goal.returns-then-not-needs_met
+returns-then-not-needs_met c =
     let d = c.args.self.now in
     record {
       answers = (
-        needs_not_met (vec_items d.trees) c.as-slice.result.now (vec_items d.nodes) c.as-slice-2.result.now c.args.tree c.args.node c.in-Some.slot c.args.choice c.args.list.now
-            c.as-slice.ensures.value c.as-slice-2.ensures.value c.in-Some.ensures c.if-not-needs-met.ensures,
+        needs_not_met (vec_items d.trees) c.as_slice.result.now (vec_items d.nodes) c.as_slice-2.result.now c.args.tree c.args.node c.in-Some.slot c.args.choice c.args.list.now
+            c.as_slice.ensures.value c.as_slice-2.ensures.value c.in-Some.ensures c.if-not-needs_met.ensures,
         refl,
         refl,
       );
@@ -43,10 +43,10 @@ returns-then-not-listable c =
     let d = c.args.self.now in
     record {
       answers = (
-        by_list (vec_items d.trees) c.as-slice.result.now (vec_items d.nodes) c.as-slice-2.result.now c.args.tree c.args.node c.in-Some.slot c.args.choice c.args.list.now
-            c.as-slice.ensures.value c.as-slice-2.ensures.value c.in-Some.ensures
-            false c.as-slice-4.result.now c.as-slice-3.result.now c.label-of-label.result c.if-not-needs-met.ensures
-            c.as-slice-4.ensures.value c.as-slice-3.ensures.value c.label-of-label.ensures c.if-not-listable.ensures,
+        by_list (vec_items d.trees) c.as_slice.result.now (vec_items d.nodes) c.as_slice-2.result.now c.args.tree c.args.node c.in-Some.slot c.args.choice c.args.list.now
+            c.as_slice.ensures.value c.as_slice-2.ensures.value c.in-Some.ensures
+            false c.as_slice-4.result.now c.as_slice-3.result.now c.label_of-label.result c.if-not-needs_met.ensures
+            c.as_slice-4.ensures.value c.as_slice-3.ensures.value c.label_of-label.ensures c.if-not-listable.ensures,
         refl,
         refl,
       );
@@ -64,14 +64,14 @@ returns c =
     let W : Constraint → List Node = λ k. set ns i (constrained (get_or ns i no_node) k) in
     let nodes-are : ms ≡ W (constraint_of p bs) = c.constrain.ensures.nodes ∙ ap W c.constraint_of.ensures in
     let found : Some i ≡ target (vec_items d.trees) ns c.args.tree c.args.node
-    = c.in-Some.ensures ∙ (ap (λ (l : List Tree). target l c.as-slice-2.result.now c.args.tree c.args.node) c.as-slice.ensures.value
-    ∙ ap (λ (l : List Node). target (vec_items d.trees) l c.args.tree c.args.node) c.as-slice-2.ensures.value) in
+    = c.in-Some.ensures ∙ (ap (λ (l : List Tree). target l c.as_slice-2.result.now c.args.tree c.args.node) c.as_slice.ensures.value
+    ∙ ap (λ (l : List Node). target (vec_items d.trees) l c.args.tree c.args.node) c.as_slice-2.ensures.value) in
     let slot_is : i ≡ slot (vec_items d.trees) c.args.tree c.args.node = found_slot (vec_items d.trees) ns c.args.tree c.args.node i found in
     record {
       answers = (
         by_list (vec_items d.trees) (vec_items d.trees) ns ns c.args.tree c.args.node i p bs refl refl found
-            true c.as-slice-4.result.now c.as-slice-3.result.now c.label-of-label.result c.if-not-needs-met.ensures
-            c.as-slice-4.ensures.value c.as-slice-3.ensures.value c.label-of-label.ensures c.if-not-listable.ensures
+            true c.as_slice-4.result.now c.as_slice-3.result.now c.label_of-label.result c.if-not-needs_met.ensures
+            c.as_slice-4.ensures.value c.as_slice-3.ensures.value c.label_of-label.ensures c.if-not-listable.ensures
             ∙ ap Ok (sym nodes-are),
         c.constrain.ensures.trees,
       );

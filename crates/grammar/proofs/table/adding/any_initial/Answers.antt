@@ -14,7 +14,7 @@ returns-in-Initial c = sym (here c.args.trees.now c.loop-tree.tree-index _ c.loo
 pub loop-tree-preserved : goal.loop-tree-preserved
 loop-tree-preserved c =
     ap (λ (n : ℕ). some_initial (drop n c.args.trees.now)) (add-one c.loop-tree.tree-index)
-    ∙ (sym (here c.args.trees.now c.loop-tree.tree-index _ c.loop-tree-test.true c.in-default.is) ∙ c.loop-tree.invariant)
+    ∙ (sym (here c.args.trees.now c.loop-tree.tree-index _ c.loop-tree-test.true c.in_default.is) ∙ c.loop-tree.invariant)
 
 pub returns : goal.returns
 returns c = ap some_initial (sym (drop_of_length-le c.args.trees.now c.loop-tree-test.false)) ∙ c.loop-tree.invariant

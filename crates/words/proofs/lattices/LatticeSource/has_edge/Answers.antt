@@ -1,4 +1,4 @@
-use Rattle.std.proofs.Common.{◌≡◌, ℕ, ◌<◌, ◌≤◌, Bool, true, false, ltb, leb, take, is_some, vec_items, sym, ap, ◌∙◌, ⊎_elim, arith, rules}
+use Rattle.std.proofs.Common.{◌≡◌, ℕ, false, ltb, leb, take, is_some, vec_items, sym, ap, ◌∙◌, ⊎_elim, rules}
 use Rattle.std.proofs.lemmas.Bool.{cases_Bool, and_from, lt-ltb, le-leb, both_ways}
 use Rattle.distinct.specs.Adding.{first_same}
 use Rattle.distinct.specs.Runs.{has}
@@ -6,7 +6,7 @@ use Rattle.distinct.proofs.Classes.{has_first}
 use Rattle.words.specs.declared.edge.Edge.{Edge}
 use Rattle.words.specs.declared.lattice.Lattice.{Lattice}
 use Rattle.words.specs.Bounds.{lattice_bounded}
-use Rattle.words.specs.Edges.{edge_of, same_edge, in_bounds}
+use Rattle.words.specs.Edges.{same_edge, in_bounds}
 use Rattle.words.specs.Lattices.{lattice_meaning}
 use Rattle.words.proofs.EdgeLists.{within_some, within_none}
 use Rattle.words.proofs.lattices.LatticeSource.has_edge.Goals as goal
@@ -20,11 +20,11 @@ none_outside l from word to out =
     (and_from (ltb from to) (leb to l.last) (lt-ltb from to b.0) (le-leb to l.last b.1))))
     sym (cases_Bool ((lattice_meaning l).edge from word to))
 
-pub returns-in-default : goal.returns-in-default
-returns-in-default c =
+pub returns-in_default : goal.returns-in_default
+returns-in_default c =
     let l = c.args.self.now in
     none_outside l c.args.from c.args.word c.args.to
-    (within_none l.last c.args.from c.args.word c.args.to c.in-default.ensures)
+    (within_none l.last c.args.from c.args.word c.args.to c.in_default.ensures)
 
 pub returns : goal.returns
 returns c =
@@ -32,5 +32,5 @@ returns c =
     let held = take l.held (vec_items l.memory) in
     let x = c.in-Some.edge in
     let p = within_some l.last c.args.from c.args.word c.args.to x c.in-Some.ensures in
-    let found : c.number-of.result ≡ first_same same_edge 0 held x = search rules in
-    c.is-some.ensures ∙ (ap is_some found ∙ (sym (has_first same_edge 0 held x) ∙ ap (λ (z : Edge). has same_edge held z) p.1))
+    let found : c.number_of.result ≡ first_same same_edge 0 held x = search rules in
+    c.is_some.ensures ∙ (ap is_some found ∙ (sym (has_first same_edge 0 held x) ∙ ap (λ (z : Edge). has same_edge held z) p.1))

@@ -1,5 +1,5 @@
-use Rattle.std.proofs.Common.{sym, rules}
-use Rattle.words.proofs.RowWords.{row_means, admits_its_words}
+use Rattle.std.proofs.Common.{rules}
+use Rattle.words.proofs.RowWords.{admits_its_words}
 use Rattle.words.proofs.row.Row.new.Goals as goal
 
 pub returns : goal.returns
