@@ -1,8 +1,7 @@
 -- Setting a node's constraint, by the tests that the code makes.
-use Rattle.std.proofs.Common.{◌≡◌, ℕ, ◌+◌, ◌<◌, ◌≤◌, Bool, true, false, cond, ◌&&◌, ltb, List, length, get_or, set, Some, None, Ok, Err, Option, Result, sym, refl, ap, ◌∙◌, subst, arith, length-set, get_or-set_other, get_or-set_same, ltb-true}
+use Rattle.std.proofs.Common.{◌≡◌, ℕ, ◌<◌, Bool, true, false, cond, ◌&&◌, ltb, List, length, get_or, set, Some, None, Ok, Err, sym, refl, ap, ◌∙◌, arith, length-set, get_or-set_other, get_or-set_same, ltb-true}
 use Rattle.format.specs.declared.node.Node.{Node}
 use Rattle.format.specs.declared.node.Tree.{Tree}
-use Rattle.format.specs.declared.fault.Rule.{Rule}
 use Rattle.format.specs.declared.fault.Rule.TheVariants as broken
 use Rattle.format.specs.Parts.{no_tree, no_node, label_of_kind, constrained, slot}
 use Rattle.format.specs.Judge.{adjoin, set_constraint, target, open_target, needs_met, listable, constraint_of}

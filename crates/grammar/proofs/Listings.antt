@@ -1,12 +1,11 @@
 -- The nodes that list a tree, found one after the other.
-use Rattle.std.proofs.Common.{◌≡◌, ℕ, zero, suc, ◌+◌, ◌-◌, ◌<◌, ◌≤◌, Bool, true, false, cond, List, [], ◌∷◌, ◌++◌, length, get_or, take, drop, Some, None, sym, refl, ap, ◌∙◌, arith, drop-cons}
+use Rattle.std.proofs.Common.{◌≡◌, ℕ, zero, suc, ◌-◌, ◌<◌, ◌≤◌, cond, List, [], ◌∷◌, ◌++◌, length, get_or, take, drop, Some, None, sym, refl, ap, ◌∙◌, arith, drop-cons}
 use native.Mathlib.Decide.{dec_lt}
 use lib.ListN.{get_or-eq_default}
 use Rattle.format.specs.declared.node.Node.{Node}
 use Rattle.format.specs.declared.node.Tree.{Tree}
-use Rattle.format.specs.declared.spot.Site.{Site}
 use Rattle.format.specs.Parts.{Contents, no_tree, no_node}
-use Rattle.format.specs.Keeps.{nodes_in, tree_in, lists}
+use Rattle.format.specs.Keeps.{nodes_in, lists}
 use Rattle.format.specs.Questions.{first, listing_nodes, listing_trees, listing_from}
 use Rattle.format.proofs.Cases.{nothing}
 

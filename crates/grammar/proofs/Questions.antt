@@ -1,5 +1,5 @@
 -- Questions on nodes that are there, and on nodes that are not.
-use Rattle.std.proofs.Common.{◌≡◌, ℕ, zero, suc, ◌+◌, ◌<◌, ◌≤◌, Bool, true, false, cond, List, [], ◌∷◌, length, get_or, drop, Some, None, sym, refl, ap, ◌∙◌, arith, length-drop, length-take, drop-cons}
+use Rattle.std.proofs.Common.{◌≡◌, ℕ, zero, suc, ◌+◌, ◌<◌, ◌≤◌, Bool, true, false, cond, List, [], ◌∷◌, length, get_or, drop, Some, None, refl, ap, arith, length-drop, length-take, drop-cons}
 use lib.ListN.{get_or-eq_default}
 use native.Mathlib.Nat.{min-le_right}
 use Rattle.format.specs.Layout.{pass}

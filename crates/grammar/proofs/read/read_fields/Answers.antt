@@ -1,12 +1,12 @@
-use Rattle.std.proofs.Common.{◌≡◌, ℕ, suc, ◌+◌, ◌-◌, ◌<◌, ◌≤◌, List, length, Ok, Err, sym, refl, ap, ◌∙◌, arith, true-eqb, false-eqb}
+use Rattle.std.proofs.Common.{ℕ, ◌-◌, ◌≤◌, List, length, Err, sym, ◌∙◌}
 use Rattle.grammar.specs.declared.draft.Draft.{Draft}
 use Rattle.fields.specs.declared.stop.Stop.{Stop}
 use Rattle.fields.specs.declared.stop.Stop.TheVariants as stops
 use Rattle.format.specs.Fields.{Whole}
 use Rattle.grammar.specs.Read.{Reads, error_at}
-use Rattle.format.specs.Judge.{State, judge, judge_field, judge_end}
+use Rattle.format.specs.Judge.{State, judge, judge_field}
 use Rattle.grammar.specs.Drafts.{state, Judged}
-use Rattle.format.proofs.Walks.{Walked, nothing_walked, cut_here, walked_on, shorter_now, refused_here, all_walked, in_size, over_size}
+use Rattle.format.proofs.Walks.{Walked, walked_on, shorter_now, refused_here, in_size}
 use Rattle.grammar.proofs.read.read_fields.Goals as goal
 
 stops_here : (bytes : List ℕ) (s : State) (d : Draft) (rest : List ℕ) (tag : ℕ) (body later : List ℕ) (stop : Stop) → length bytes ≤ 16384 → Walked bytes s rest → Whole rest tag body later

@@ -1,7 +1,7 @@
-use Rattle.std.proofs.Common.{◌≡◌, ℕ, suc, ◌+◌, ◌-◌, ◌<◌, ◌≤◌, List, length, get_or, take, drop, Ok, Err, vec_items, sym, refl, ap, ◌∙◌, arith, ltb-false}
+use Rattle.std.proofs.Common.{◌≡◌, List, Ok, vec_items, sym, ap, ◌∙◌, arith, ltb-false}
 use Rattle.format.specs.declared.stage.Phase.TheVariants.{Adjoinings}
 use Rattle.format.specs.declared.node.Tree.{Tree}
-use Rattle.format.specs.Judge.{State, adjoined}
+use Rattle.format.specs.Judge.{adjoined}
 use Rattle.grammar.specs.Drafts.{state}
 use Rattle.grammar.proofs.Additions.{in_parts}
 use Rattle.grammar.proofs.draft.Draft.adjoining.Goals as goal

@@ -1,4 +1,4 @@
-use Rattle.std.proofs.Common.{◌≡◌, ℕ, ◌+◌, ◌/◌, ◌<◌, ◌≤◌, ltb, leb, List, [], ◌∷◌, ◌++◌, length, vec_items, sym, refl, ap, ◌∙◌, subst, arith, ltb-true, leb-true, false-eqb}
+use Rattle.std.proofs.Common.{◌+◌, ◌/◌, ltb, leb, length, vec_items, sym, arith, ltb-true, leb-true, false-eqb}
 use Rattle.std.proofs.lemmas.Bool.{and_parts}
 use Rattle.grammar.specs.Drafts.{state}
 use Rattle.grammar.proofs.Additions.{tree_is_added}

@@ -1,4 +1,4 @@
-use Rattle.std.proofs.Common.{◌≡◌, ℕ, suc, sym, ap, ◌∙◌}
+use Rattle.std.proofs.Common.{suc, sym, ap, ◌∙◌}
 use Rattle.format.specs.declared.node.Node.{Node}
 use Rattle.format.specs.declared.spot.Spot.{Spot}
 use Rattle.format.specs.Keeps.{nodes_in}

@@ -1,8 +1,8 @@
-use Rattle.std.proofs.Common.{◌≡◌, ℕ, suc, ◌+◌, ◌<◌, ◌≤◌, List, length, get_or, Some, sym, refl, ap, ◌∙◌, subst, add-one, arith, Fits-lit}
+use Rattle.std.proofs.Common.{◌≡◌, ℕ, suc, ◌+◌, ◌<◌, ◌≤◌, List, length, get_or, Some, sym, ap, ◌∙◌, subst, add-one, arith}
 use Rattle.format.specs.declared.node.Node.{Node}
 use Rattle.format.specs.Parts.{Contents, no_node}
 use Rattle.format.specs.Layout.{pass}
-use Rattle.format.specs.Keeps.{nodes_in, node_in, Few, Ends, ChildWithin}
+use Rattle.format.specs.Keeps.{nodes_in, Ends, ChildWithin}
 use Rattle.format.specs.Questions.{nth, roots_from}
 use Rattle.grammar.specs.Grammars.{contents_in}
 use Rattle.grammar.proofs.Questions.{absent, nth_root, no_root, few_nodes}

@@ -1,5 +1,4 @@
-use Rattle.std.proofs.Common.{◌≡◌, ℕ, ◌<◌, ◌≤◌, length, sym, ap, ◌∙◌, arith}
-use Rattle.format.specs.Keeps.{nodes_in}
+use Rattle.std.proofs.Common.{length, ap, arith}
 use Rattle.grammar.specs.Grammars.{contents_in}
 use Rattle.grammar.proofs.Questions.{foot_there, few_nodes}
 use Rattle.grammar.proofs.grammar.Grammar.foot.Goals as goal

@@ -1,7 +1,5 @@
-use Rattle.std.proofs.Common.{◌≡◌, ℕ, suc, ◌+◌, ◌-◌, ◌≤◌, List, length, drop, Some, None, Option, sym, refl, ap, ◌∙◌, add-one, arith}
+use Rattle.std.proofs.Common.{◌≡◌, ℕ, suc, ◌-◌, List, length, drop, Some, None, sym, ap, ◌∙◌, add-one, arith}
 use Rattle.format.specs.declared.node.Node.{Node}
-use Rattle.format.specs.declared.spot.Site.{Site}
-use Rattle.format.specs.Parts.{Contents}
 use Rattle.format.specs.Keeps.{nodes_in}
 use Rattle.format.specs.Questions.{first, listing_nodes, listing_trees, listing_from}
 use Rattle.grammar.specs.Grammars.{contents_in}

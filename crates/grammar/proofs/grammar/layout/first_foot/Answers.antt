@@ -1,4 +1,4 @@
-use Rattle.std.proofs.Common.{◌≡◌, ℕ, suc, ◌+◌, Bool, false, cond, get_or, drop, Some, sym, refl, ap, ◌∙◌, add-one, drop_of_length-le}
+use Rattle.std.proofs.Common.{◌≡◌, ℕ, suc, Bool, false, cond, get_or, drop, Some, sym, refl, ap, ◌∙◌, add-one, drop_of_length-le}
 use Rattle.format.specs.declared.node.Kind.{Kind}
 use Rattle.format.specs.declared.node.Kind.TheVariants.{Inner, Word, Empty, Foot}
 use Rattle.format.specs.Parts.{no_node}

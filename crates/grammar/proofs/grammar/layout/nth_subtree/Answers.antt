@@ -1,4 +1,4 @@
-use Rattle.std.proofs.Common.{◌≡◌, ℕ, suc, ◌+◌, get_or, sym, ap, ◌∙◌, add-one}
+use Rattle.std.proofs.Common.{ℕ, get_or, sym, ap, ◌∙◌, add-one}
 use Rattle.format.specs.Parts.{no_node}
 use Rattle.format.specs.Layout.{pass}
 use Rattle.grammar.proofs.Questions.{pass_more}

@@ -1,7 +1,4 @@
-use Rattle.std.proofs.Common.{◌≡◌, ℕ, suc, ◌+◌, Bool, true, false, cond, List, ◌∷◌, get_or, drop, Some, sym, refl, ap, ◌∙◌, add-one, drop_of_length-le}
-use Rattle.format.specs.declared.spot.Site.{Site}
-use Rattle.format.specs.Parts.{no_node}
-use Rattle.format.specs.Keeps.{lists}
+use Rattle.std.proofs.Common.{ℕ, suc, Bool, cond, ◌∷◌, drop, sym, ap, ◌∙◌, add-one, drop_of_length-le}
 use Rattle.format.specs.Questions.{first, listing_nodes}
 use Rattle.grammar.proofs.Listings.{listing_here}
 use Rattle.grammar.proofs.grammar.listing.first_listing.Goals as goal

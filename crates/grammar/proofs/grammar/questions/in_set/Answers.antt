@@ -1,4 +1,4 @@
-use Rattle.std.proofs.Common.{◌≡◌, false, sym, ◌∙◌, le-ltb}
+use Rattle.std.proofs.Common.{false, sym, ◌∙◌, le-ltb}
 use lib.ListN.{get_or-eq_default}
 use Rattle.grammar.proofs.grammar.questions.in_set.Goals as goal
 

@@ -1,4 +1,4 @@
-use Rattle.std.proofs.Common.{◌≡◌, ℕ, List, length, get_or, set, vec_items, sym, refl, ap, ◌∙◌, arith, length-set}
+use Rattle.std.proofs.Common.{List, length, get_or, set, vec_items, refl, ap, ◌∙◌, arith, length-set}
 use Rattle.std.proofs.lemmas.List.{with_items_is}
 use Rattle.format.specs.declared.node.Node.{Node}
 use Rattle.format.specs.Parts.{no_node, constrained}

@@ -1,4 +1,4 @@
-use Rattle.std.proofs.Common.{◌≡◌, ℕ, ◌≤◌, List, [], length, get_or, take, drop, vec_items, sym, refl, ap, ◌∙◌, arith}
+use Rattle.std.proofs.Common.{◌≡◌, length, get_or, take, drop, vec_items, sym, ap, arith}
 use lib.ListN.{get_or-eq_default}
 use Rattle.format.specs.declared.node.Tree.{Tree}
 use Rattle.format.specs.Parts.{no_tree}

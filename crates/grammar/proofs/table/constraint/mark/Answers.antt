@@ -1,4 +1,4 @@
-use Rattle.std.proofs.Common.{◌≡◌, ℕ, suc, ◌+◌, ◌<◌, Bool, true, List, length, get_or, drop, set, sym, refl, ap, ◌∙◌, add-one, arith, length-set, drop_of_length-le, drop-cons}
+use Rattle.std.proofs.Common.{◌≡◌, ℕ, ◌+◌, ◌<◌, Bool, true, List, length, get_or, drop, set, sym, ap, ◌∙◌, add-one, arith, length-set, drop_of_length-le, drop-cons}
 use lib.Seq.{set_out}
 use Rattle.grammar.proofs.table.constraint.mark.Goals as goal
 use Rattle.format.specs.Parts.{mark}
