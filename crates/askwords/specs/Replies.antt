@@ -1,5 +1,5 @@
 -- What a lattice and a window over it are to answer.
-use Rattle.std.specs.Prelude.{◌≡◌, ℕ, Bool, replicate, Some, None, Ok, Err, Option, Result}
+use Rattle.std.specs.Prelude.{◌≡◌, ℕ, replicate, Some, None, Ok, Err, Option, Result}
 use Rattle.std.specs.Option.{option_map}
 use Rattle.distinct.specs.Runs.{Listed, begun}
 use Rattle.words.specs.declared.edge.Edge as edge

@@ -1,9 +1,6 @@
 //! An open chart and a closed one.
 ghost use Rattle.std.specs.Prelude.{◌≡◌, ◌≤◌, false};
-ghost use Rattle.grammar.specs.Grammars.{contents_in};
 ghost use Rattle.steps.specs.Items.{most_positions};
-ghost use Rattle.theory.specs.Came.{Came};
-ghost use Rattle.chart.specs.Drawn.{held_in};
 
 use crate::store::Store;
 use grammar::grammar::Grammar;
@@ -17,7 +14,6 @@ pub struct Chart<'g> {
     pub(crate) last: u32,
     ghost behind: { processed ≤ store.held },
     ghost short: { store.full ≡ false → last ≤ most_positions },
-    ghost came: { Came (contents_in grammar.now) (held_in store) },
 }
 
 /// A chart that takes no more work. It still tells its verdict and shows its items, and it alone hands its memory back.
@@ -27,5 +23,4 @@ pub struct Closed<'g> {
     pub(crate) store: Store,
     pub(crate) processed: usize,
     pub(crate) last: u32,
-    ghost came: { Came (contents_in grammar.now) (held_in store) },
 }

@@ -1,8 +1,6 @@
 //! The life of a chart: judging, making, work, closing, release.
 ghost use Rattle.std.specs.Prelude.{◌≡◌, length};
 ghost use Rattle.grammar.specs.Grammars.{contents_in};
-ghost use Rattle.theory.specs.Came.{Came};
-ghost use Rattle.chart.specs.Drawn.{held_in};
 ghost use Rattle.chart.specs.Charts.{judged, Made, WorkDone};
 
 use crate::chart::{Chart, Closed};
@@ -95,7 +93,6 @@ impl<'g> Chart<'g> {
 impl<'g> Closed<'g> {
     /// A closed chart from its parts.
     fn over(grammar: &'g Grammar, store: Store, processed: usize, last: u32) -> Closed<'g>
-        requires { Came (contents_in grammar.now) (held_in store) }
         ensures grammar { result.grammar.now ≡ grammar.now }
         ensures store { result.store ≡ store }
         ensures processed { result.processed ≡ processed }

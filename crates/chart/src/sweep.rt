@@ -12,7 +12,7 @@ use grammar::grammar::Grammar;
 /// Tries the first `n` held items in rising order as the premise that is left, and draws what the step concludes.
 pub(crate) fn sweep<F: Row>(row: &F, grammar: &Grammar, store: &mut Store, n: usize)
     requires { n ≤ store.old.held }
-    ensures { Drawn store.old store.new (each (λ k x. option_to_list (gives row.now (contents_in grammar.now) k x)) 0 (take n (held_in store.old))) }
+    ensures { Drawn store.old store.new (each (λ k x. option_to_list (F.gives row.now (contents_in grammar.now) k x)) 0 (take n (held_in store.old))) }
 {
     for k in 0..n {
         if store.full {

@@ -2,7 +2,6 @@
 ghost use Rattle.std.specs.Prelude.{◌≡◌};
 ghost use Rattle.grammar.specs.Grammars.{contents_in};
 ghost use Rattle.steps.specs.Verdicts.{says_yes, yes_in, verdict};
-ghost use Rattle.theory.specs.Came.{Came};
 ghost use Rattle.chart.specs.Drawn.{held_in};
 ghost use Rattle.chart.specs.Works.{working};
 ghost use Rattle.chart.specs.Charts.{working_in, working_closed, shown};
@@ -92,10 +91,9 @@ impl Closed<'_> {
         item_of(&self.store, number)
     }
 
-    /// The held items, in the order of their numbers. Each came by its step from items with smaller numbers.
+    /// The held items, in the order of their numbers.
     pub fn items(&self) -> &[Item]
-        ensures items { result.now ≡ (working_closed self.now).state.items }
-        ensures came { Came (contents_in self.now.grammar.now) result.now }
+        ensures { result.now ≡ (working_closed self.now).state.items }
     {
         &self.store.items.as_slice()[0..self.store.held]
     }

@@ -1,18 +1,16 @@
 -- What a chart spells passes.
-use Rattle.std.proofs.Common.{◌≡◌, ℕ, zero, suc, ◌+◌, ◌<◌, Bool, true, false, cond, ◌||◌, List, [], ◌∷◌, length, Some, None, Option, sym, refl, ap, ◌∙◌, subst, arith}
+use Rattle.std.proofs.Common.{◌≡◌, ℕ, suc, ◌+◌, ◌<◌, Bool, true, false, cond, ◌||◌, List, [], ◌∷◌, length, Some, None, Option, refl, ap, subst, arith}
 use Rattle.format.specs.Parts.{Contents}
-use Rattle.words.specs.Meaning.{Meaning}
 use Rattle.steps.specs.declared.item.Item.{Item}
 use Rattle.steps.specs.declared.verdict.Verdict.TheVariants.{Yes, No, Full, Open}
 use Rattle.steps.specs.Items.{item_at}
 use Rattle.steps.specs.Runs.{Working, goes_on}
-use Rattle.steps.specs.Verdicts.{says_yes, yes_in, verdict}
+use Rattle.steps.specs.Verdicts.{says_yes, yes_in}
 use Rattle.theory.specs.Calls.{called}
 use Rattle.theory.proofs.Verdicts.{tests_yes}
 use Rattle.derivation.specs.Walks.{certificate}
 use Rattle.derivation.specs.Readings.{derivation_of}
-use Rattle.derivation.specs.Theorems.{YesItemsReadOff}
-use Rattle.derivation.specs.Spelling.{first_from, certificate_at, spelled, Passes, ChartsSpellRightly}
+use Rattle.derivation.specs.Spelling.{first_from, certificate_at, Passes, ChartsSpellRightly}
 use Rattle.derivation.proofs.Unique.{never}
 use Rattle.derivation.proofs.Main.{called_yes_items_are_derived}
 

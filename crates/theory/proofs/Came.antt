@@ -1,10 +1,9 @@
 -- What steps conclude came by them.
-use Rattle.std.proofs.Common.{◌≡◌, ℕ, zero, suc, ◌+◌, ◌<◌, ◌≤◌, Bool, true, false, cond, not, ◌&&◌, eqb, ltb, List, length, sym, refl, ap, ◌∙◌, subst, arith, ltb-true, lt-ltb, eq-eqb}
+use Rattle.std.proofs.Common.{◌≡◌, ℕ, zero, suc, ◌+◌, ◌<◌, ◌≤◌, Bool, true, false, cond, not, ◌&&◌, ltb, List, length, sym, refl, ap, ◌∙◌, subst, arith, ltb-true, lt-ltb, eq-eqb}
 use native.Mathlib.Decide.{dec_lt}
 use Rattle.format.specs.declared.node.Kind.{Kind}
-use Rattle.format.specs.declared.node.Kind.TheVariants.{Inner, Word, Empty, Foot}
-use Rattle.format.specs.declared.spot.Spot.{Spot}
-use Rattle.format.specs.declared.spot.Spot.TheVariants.{Top, At}
+use Rattle.format.specs.declared.node.Kind.TheVariants.{Word, Empty}
+use Rattle.format.specs.declared.spot.Spot.TheVariants.{At}
 use Rattle.format.specs.declared.spot.Next.{Next}
 use Rattle.format.specs.declared.spot.Next.TheVariants.{Child}
 use Rattle.format.specs.Parts.{Contents}
@@ -14,15 +13,14 @@ use Rattle.words.specs.Meaning.{Meaning}
 use Rattle.steps.specs.declared.item.Item.{Item}
 use Rattle.steps.specs.declared.item.Origin.{Origin}
 use Rattle.steps.specs.declared.item.Origin.TheVariants.{Start, Scan, Predict, Complete, AdjoinPredict, FootPredict, FootComplete, AdjoinComplete}
-use Rattle.steps.specs.Items.{same_spot, moved, item_at}
-use Rattle.steps.specs.Conclusions.{after, finished, stays, listed, whole, is_top, conclusions, starts}
-use Rattle.steps.specs.Runs.{State, Working, draw_all, goes_on, process, worked, made}
-use Rattle.theory.specs.Members.{Among}
+use Rattle.steps.specs.Items.{moved, item_at}
+use Rattle.steps.specs.Conclusions.{after, finished, is_top, conclusions, starts}
+use Rattle.steps.specs.Runs.{State, Working, draw_all, goes_on, process, worked}
 use Rattle.theory.specs.Steps.{Step, start, scan_word, scan_empty, predict, complete, adjoin_predict, foot_predict, foot_complete, adjoin_complete, Below}
 use Rattle.theory.specs.Came.{moves, leaf_next, ends_at, plain_next, adjoined_next, foot_spot, came_by, came, Came}
 use Rattle.theory.proofs.Tests.{and_split, and_both, spot_refl, true_spot}
 use Rattle.theory.proofs.Premises.{more}
-use Rattle.theory.proofs.Draws.{Prefix, Drawn, drawn_all}
+use Rattle.theory.proofs.Draws.{Prefix, drawn_all}
 use Rattle.theory.proofs.Reading.{from_conclusions}
 use Rattle.theory.proofs.Charts.{from_starts}
 

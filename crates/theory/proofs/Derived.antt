@@ -1,5 +1,5 @@
 -- Derivable items, and what a chart holds.
-use Rattle.std.proofs.Common.{ℕ, zero, suc, ◌+◌, ◌<◌, ◌≤◌, List, length, sym, subst, arith}
+use Rattle.std.proofs.Common.{ℕ, zero, suc, ◌+◌, ◌<◌, ◌≤◌, List, length, subst, arith}
 use Rattle.format.specs.Parts.{Contents}
 use Rattle.words.specs.Meaning.{Meaning}
 use Rattle.steps.specs.declared.item.Item.{Item}

@@ -1,5 +1,5 @@
 -- That each item of a list came by the step that its origin names, from items with smaller numbers: as a test on its tree, its place and its dot, whatever the positions.
-use Rattle.std.specs.Prelude.{◌≡◌, ℕ, ◌+◌, ◌<◌, Bool, true, false, not, ◌&&◌, List, length, Some, None, Option, ◌==◌, nat_lt}
+use Rattle.std.specs.Prelude.{◌≡◌, ℕ, ◌+◌, ◌<◌, Bool, true, false, not, ◌&&◌, List, length, ◌==◌, nat_lt}
 use Rattle.format.specs.declared.spot.Spot.{Spot}
 use Rattle.format.specs.declared.spot.Spot.TheVariants.{Top, At}
 use Rattle.format.specs.declared.spot.Next.{Next}

@@ -19,9 +19,9 @@ loop-a-preserved c =
     let n = c.args.t in
     let a = c.loop-a.a in
     let h : a < s.held = omega arith in
-    turned (λ a x. pairs (f a x) (held_in s) n) s r c.adjoin-below.new.store a (pairs (f a (item_at (held_in r) a)) (held_in r) n) h c.loop-a.invariant
+    turned (λ a x. pairs (f a x) (held_in s) n) s r c.adjoin_below.new.store a (pairs (f a (item_at (held_in r) a)) (held_in r) n) h c.loop-a.invariant
     (pairs_front (f a (item_at (held_in r) a)) s r _ n c.loop-a.invariant c.requires ∙ ap (λ (z : Item). pairs (f a z) (held_in s) n) (drawn_item_at s r _ a c.loop-a.invariant h))
-    c.adjoin-below.ensures
+    c.adjoin_below.ensures
 
 pub returns : goal.returns
 returns c =

@@ -11,8 +11,8 @@ use Rattle.chart.proofs.Skips.{each_none, each_empty}
 use Rattle.chart.proofs.Fixed.{swept_fixed, row_skipped, both_places, none_from, not_filled, not_whole, unfinished_content, not_before, no_site_adjoins}
 use Rattle.chart.proofs.adjoining.adjoin_all_blocks.Goals as goal
 
-pub returns-then-not-is-whole : goal.returns-then-not-is-whole
-returns-then-not-is-whole c =
+pub returns-then-not-is_whole : goal.returns-then-not-is_whole
+returns-then-not-is_whole c =
     let s = c.args.store.now in
     let d = contents_in c.args.grammar.now in
     let x = c.index.result.now in
@@ -21,7 +21,7 @@ returns-then-not-is-whole c =
     drawn_as s s [] _
     (sym (each_empty (block_at (adjoin_complete d) (held_in s) n) 0 (take (n + 1) (held_in s))
     (λ b y. ap (λ (w : Item). each (λ k z. option_to_list (adjoin_complete d n w b y k z)) 0 (take (n + 1) (held_in s))) (sym f)
-    ∙ each_none (adjoin_complete d n x b y) 0 (take (n + 1) (held_in s)) (λ k z. not_whole d n x b y k z (sym c.if-not-is-whole.ensures)))))
+    ∙ each_none (adjoin_complete d n x b y) 0 (take (n + 1) (held_in s)) (λ k z. not_whole d n x b y k z (sym c.if-not-is_whole.ensures)))))
     (drawn_none s)
 
 pub loop-b-preserved : goal.loop-b-preserved
@@ -32,9 +32,9 @@ loop-b-preserved c =
     let n = c.args.t in
     let b = c.loop-b.b in
     let h : b < s.held = omega arith in
-    turned (block_at f (held_in s) n) s r c.adjoin-block.new.store b (block_at f (held_in r) n b (item_at (held_in r) b)) h c.loop-b.invariant
+    turned (block_at f (held_in s) n) s r c.adjoin_block.new.store b (block_at f (held_in r) n b (item_at (held_in r) b)) h c.loop-b.invariant
     (block_front f s r _ n b (item_at (held_in r) b) c.loop-b.invariant c.requires ∙ ap (λ (z : Item). block_at f (held_in s) n b z) (drawn_item_at s r _ b c.loop-b.invariant h))
-    c.adjoin-block.ensures
+    c.adjoin_block.ensures
 
 pub returns : goal.returns
 returns c =

@@ -11,8 +11,8 @@ use Rattle.chart.proofs.Skips.{each_none, each_empty}
 use Rattle.chart.proofs.Fixed.{swept_fixed, row_skipped, both_places, none_from, not_filled, not_whole, unfinished_content, not_before, no_site_adjoins}
 use Rattle.chart.proofs.adjoining.adjoin_block.Goals as goal
 
-pub returns-then-not-fills-foot : goal.returns-then-not-fills-foot
-returns-then-not-fills-foot c =
+pub returns-then-not-fills_foot : goal.returns-then-not-fills_foot
+returns-then-not-fills_foot c =
     let s = c.args.store.now in
     let d = contents_in c.args.grammar.now in
     let x = c.index-2.result.now in
@@ -25,7 +25,7 @@ returns-then-not-fills-foot c =
     drawn_as s s (each (λ k z. option_to_list (adjoin_complete d n x b y k z)) 0 (take (n + 1) (held_in s))) _
     (ap (λ (w : Item). each (λ k z. option_to_list (adjoin_complete d n w b y k z)) 0 (take (n + 1) (held_in s))) f
     ∙ ap (λ (w : Item). block_at (adjoin_complete d) (held_in s) n b w) e)
-    (drawn_as s s [] _ (sym (each_none (adjoin_complete d n x b y) 0 (take (n + 1) (held_in s)) (λ k z. not_filled d n x b y k z (sym c.if-not-fills-foot.ensures)))) (drawn_none s))
+    (drawn_as s s [] _ (sym (each_none (adjoin_complete d n x b y) 0 (take (n + 1) (held_in s)) (λ k z. not_filled d n x b y k z (sym c.if-not-fills_foot.ensures)))) (drawn_none s))
 
 pub returns-then-not-finished : goal.returns-then-not-finished
 returns-then-not-finished c =

@@ -19,13 +19,13 @@ returns-then-first-item c =
     row_skipped (λ z b y. adjoin_complete d f.number f.item b y c.args.t z) c.args.store.now c.args.t c.args.t z c.requires c.index.ensures
     (λ b y. not_before d f.number f.item b y c.args.t z (ne_eqb f.item.i z.j c.if-first-item.true))
 
-pub returns-then-is-none : goal.returns-then-is-none
-returns-then-is-none c =
+pub returns-then-is_none : goal.returns-then-is_none
+returns-then-is_none c =
     let d = contents_in c.args.grammar.now in
     let f = c.args.first in
     let z = c.index.result.now in
     row_skipped (λ z b y. adjoin_complete d f.number f.item b y c.args.t z) c.args.store.now c.args.t c.args.t z c.requires c.index.ensures
-    (λ b y. no_site_adjoins d f.number f.item b y c.args.t z (sym c.site.ensures.is ∙ none_from c.site.result c.if-is-none.ensures))
+    (λ b y. no_site_adjoins d f.number f.item b y c.args.t z (sym c.site.ensures.is ∙ none_from c.site.result c.if-is_none.ensures))
 
 pub returns : goal.returns
 returns c =

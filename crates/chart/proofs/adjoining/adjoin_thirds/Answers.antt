@@ -11,13 +11,13 @@ use Rattle.chart.proofs.Skips.{each_none, each_empty}
 use Rattle.chart.proofs.Fixed.{swept_fixed, row_skipped, both_places, none_from, not_filled, not_whole, unfinished_content, not_before, no_site_adjoins}
 use Rattle.chart.proofs.adjoining.adjoin_thirds.Goals as goal
 
-pub returns-then-not-fills-foot : goal.returns-then-not-fills-foot
-returns-then-not-fills-foot c =
+pub returns-then-not-fills_foot : goal.returns-then-not-fills_foot
+returns-then-not-fills_foot c =
     let d = contents_in c.args.grammar.now in
     let f = c.args.first in
     let y = c.index.result.now in
     row_skipped (λ y k z. adjoin_complete d f.number f.item c.args.t y k z) c.args.store.now (c.args.t + 1) c.args.t y c.requires c.index.ensures
-    (λ k z. not_filled d f.number f.item c.args.t y k z (sym c.if-not-fills-foot.ensures))
+    (λ k z. not_filled d f.number f.item c.args.t y k z (sym c.if-not-fills_foot.ensures))
 
 pub returns-then-not-finished : goal.returns-then-not-finished
 returns-then-not-finished c =

@@ -13,5 +13,5 @@ use Rattle.chart.proofs.adjoining.adjoin_triples.Goals as goal
 
 pub returns : goal.returns
 returns c =
-    tripled (adjoin_complete (contents_in c.args.grammar.now)) c.args.store.now c.adjoin-all-below.new.store c.adjoin-all-blocks.new.store c.args.t c.requires
-    c.adjoin-all-below.ensures c.adjoin-all-blocks.ensures
+    tripled (adjoin_complete (contents_in c.args.grammar.now)) c.args.store.now c.adjoin_all_below.new.store c.adjoin_all_blocks.new.store c.args.t c.requires
+    c.adjoin_all_below.ensures c.adjoin_all_blocks.ensures

@@ -13,8 +13,8 @@ use Rattle.chart.proofs.Runs.{drawn_none, drawn_as, drawn_then}
 use Rattle.chart.proofs.Listed.{site_if, one_more_node}
 use Rattle.chart.proofs.feet.predict_in_tree.Goals as goal
 
-pub overflow-cast-node : goal.overflow-cast-node
-overflow-cast-node c =
+pub overflow_cast-node : goal.overflow_cast-node
+overflow_cast-node c =
     let g = c.args.grammar.now in
     let b = few_nodes (contents_in g) g.few c.args.tree in
     omega (arith, c.loop-k-test.true, ap length c.nodes-k-end.ensures)
@@ -44,8 +44,8 @@ loop-k-preserved c =
     drawn_as s u (map f (listing_nodes x.tree c.args.tree 0 (take k vs)) ++ map f (site_if x.tree c.args.tree k (get_or vs k no_node))) _
     (sym (one_more_node f x.tree c.args.tree k vs (omega (arith, c.loop-k-test.true, ap length c.nodes-k-end.ensures))))
     (drawn_then s t u _ _ c.loop-k.invariant
-    (drawn_as t u (c.first-item.result ∷ []) _
-    (ap (λ (y : Item). y ∷ []) c.first-item.ensures ∙ ap (λ (q : Bool). map f (cond q (record { tree = c.args.tree; node = k } ∷ []) [])) c.if-not-lists.ensures) c.draw.ensures))
+    (drawn_as t u (c.first_item.result ∷ []) _
+    (ap (λ (y : Item). y ∷ []) c.first_item.ensures ∙ ap (λ (q : Bool). map f (cond q (record { tree = c.args.tree; node = k } ∷ []) [])) c.if-not-lists.ensures) c.draw.ensures))
 
 pub returns : goal.returns
 returns c =

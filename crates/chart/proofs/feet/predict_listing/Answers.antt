@@ -15,9 +15,9 @@ loop-k-preserved c =
     let k = c.loop-k.k in
     let s = c.args.store.now in
     let t = c.loop-k.store in
-    let u = c.predict-in-tree.new.store in
+    let u = c.predict_in_tree.new.store in
     drawn_as s u (map f (listing_trees d x.tree k 0) ++ map f (listing_nodes x.tree k 0 (nodes_in d k))) _
-    (sym (one_more_tree f d x.tree k)) (drawn_then s t u _ _ c.loop-k.invariant c.predict-in-tree.ensures)
+    (sym (one_more_tree f d x.tree k)) (drawn_then s t u _ _ c.loop-k.invariant c.predict_in_tree.ensures)
 
 pub returns : goal.returns
 returns c =

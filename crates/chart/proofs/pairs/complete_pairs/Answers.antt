@@ -5,5 +5,5 @@ use Rattle.chart.proofs.pairs.complete_pairs.Goals as goal
 
 pub returns : goal.returns
 returns c =
-    both_places (complete (contents_in c.args.grammar.now)) c.args.store.now c.complete-from.new.store c.complete-past.new.store c.args.t
-    c.requires c.complete-from.ensures c.complete-past.ensures
+    both_places (complete (contents_in c.args.grammar.now)) c.args.store.now c.complete_from.new.store c.complete_past.new.store c.args.t
+    c.requires c.complete_from.ensures c.complete_past.ensures

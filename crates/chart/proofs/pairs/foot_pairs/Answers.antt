@@ -5,5 +5,5 @@ use Rattle.chart.proofs.pairs.foot_pairs.Goals as goal
 
 pub returns : goal.returns
 returns c =
-    both_places (foot_complete (contents_in c.args.grammar.now)) c.args.store.now c.foot_from.new.store c.foot-past.new.store c.args.t
-    c.requires c.foot_from.ensures c.foot-past.ensures
+    both_places (foot_complete (contents_in c.args.grammar.now)) c.args.store.now c.foot_from.new.store c.foot_past.new.store c.args.t
+    c.requires c.foot_from.ensures c.foot_past.ensures

@@ -9,5 +9,5 @@ abbrev pub invariant-loop-k : goal.invariant-loop-k
 invariant-loop-k g l =
     Grown l.initial.store l.store
     × (worked (contents_in l.grammar) (g.S.Source.meaning l.source) (length (vec_items l.initial.store.items)) l.budget (working l.initial.store l.initial.t)
-    ≡ worked (contents_in l.grammar) (g.S.Source.meaning l.source) (length (vec_items l.initial.store.items)) (l.budget - l.-k) (working l.store l.t))
+    ≡ worked (contents_in l.grammar) (g.S.Source.meaning l.source) (length (vec_items l.initial.store.items)) (l.budget - l._k) (working l.store l.t))
     × (l.t ≤ l.store.held)

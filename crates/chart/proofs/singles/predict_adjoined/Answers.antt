@@ -20,8 +20,8 @@ pub loop-k-preserved : goal.loop-k-preserved
 loop-k-preserved c =
     let d = contents_in c.args.grammar.now in
     let x = c.args.x.now in
-    stepped (adjoin_tree d c.args.t x c.in-Some.n) c.args.store.now c.loop-k.store c.draw.new.self c.loop-k.k (c.first-item.result ∷ []) c.loop-k.invariant
-    (is_drawn (listed d x.tree c.in-Some.n c.loop-k.k) (fresh c.loop-k.k Top x.j (AdjoinPredict c.args.t)) c.first-item.result c.if-not-lists.ensures c.first-item.ensures) c.draw.ensures
+    stepped (adjoin_tree d c.args.t x c.in-Some.n) c.args.store.now c.loop-k.store c.draw.new.self c.loop-k.k (c.first_item.result ∷ []) c.loop-k.invariant
+    (is_drawn (listed d x.tree c.in-Some.n c.loop-k.k) (fresh c.loop-k.k Top x.j (AdjoinPredict c.args.t)) c.first_item.result c.if-not-lists.ensures c.first_item.ensures) c.draw.ensures
 
 pub returns : goal.returns
 returns c =

@@ -6,10 +6,10 @@ use Rattle.grammar.specs.Grammars.{contents_in}
 use Rattle.chart.proofs.Runs.{drawn_none, drawn_as, swept, swept_full}
 use Rattle.chart.proofs.sweep.sweep.Goals as goal
 
-pub loop-k-preserved-in-default : goal.loop-k-preserved-in-default
-loop-k-preserved-in-default g c =
+pub loop-k-preserved-in_default : goal.loop-k-preserved-in_default
+loop-k-preserved-in_default g c =
     swept (λ k x. option_to_list (g.F.Row.gives c.args.row.now (contents_in c.args.grammar.now) k x)) c.args.store.now c.loop-k.store c.loop-k.store c.loop-k.k c.index.result.now []
-    (omega (arith, c.requires, c.loop-k-test.true)) c.loop-k.invariant c.index.ensures (ap option_to_list c.in-default.ensures) (drawn_none c.loop-k.store)
+    (omega (arith, c.requires, c.loop-k-test.true)) c.loop-k.invariant c.index.ensures (ap option_to_list c.in_default.ensures) (drawn_none c.loop-k.store)
 
 pub loop-k-preserved : goal.loop-k-preserved
 loop-k-preserved g c =

@@ -14,7 +14,7 @@ loop-preserved c =
     let held = vec_items c.loop.bytes in
     let left = c.args.times - (c.loop.counter + 1) in
     let e : suc left ≡ c.args.times - c.loop.counter = omega (arith, c.loop-test.true) in
-    ap (λ (l : List ℕ). l ++ copies left part) (pushed part refl c.in-ok-extend-from-slice.was c.extend-from-slice.ensures.items)
+    ap (λ (l : List ℕ). l ++ copies left part) (pushed part refl c.in_ok-extend_from_slice.was c.extend_from_slice.ensures.items)
     ∙ (append_assoc held part (copies left part) ∙ (ap (λ (n : ℕ). held ++ copies n part) e ∙ c.loop.invariant))
 
 pub returns : goal.returns

@@ -7,4 +7,4 @@ pub loop-rest-preserved : goal.loop-rest-preserved
 loop-rest-preserved c =
     one_more c.args.digits.now (vec_items c.loop-rest.bytes) (vec_items c.push.new.self) c.loop-rest.rest.now c.in-Some.byte
     (omega (arith, ltb-false)) c.loop-rest.invariant c.in-Some.ensures
-    (pushed (c.in-Some.byte ∷ []) refl c.in-ok-push.was c.push.ensures.items)
+    (pushed (c.in-Some.byte ∷ []) refl c.in_ok-push.was c.push.ensures.items)

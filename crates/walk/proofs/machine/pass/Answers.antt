@@ -19,8 +19,8 @@ returns-in-Word g c =
     c.enter.ensures.going c.enter.ensures.depth c.enter.ensures.ahead c.hear.ensures.left
     (λ s₀ h. c.hear.ensures.holds s₀ d p.tag p.tree p.node p.end (content f p.frame) (paused f w.waits) c.requires.some e h)
 
-pub returns-then-lists-any : goal.returns-then-lists-any
-returns-then-lists-any g c =
+pub returns-then-lists_any : goal.returns-then-lists_any
+returns-then-lists_any g c =
     let p = c.args.w.here in
     let e = c.nodes.ensures in
     record {

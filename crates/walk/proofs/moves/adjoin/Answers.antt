@@ -28,10 +28,10 @@ returns c =
     let t : ℕ → Piece = λ m. record { frame = w.depth; tag = c.args.tag; tree = c.args.tree; node = 0; end = m } in
     record {
       going = subst (λ (m : ℕ). Going g s' (w.depth + 1) (w.waits + 1) (t m)) n
-          (going_adjoin g s w.depth w.waits p c.requires.going c.requires.some c.args.grammar.now.ends c.args.tree c.args.tag c.content-of-content.result
-          c.content-of-content.ensures.fine c.content-of-content.ensures.content s' q c.begin.ensures.new c.requires.room);
+          (going_adjoin g s w.depth w.waits p c.requires.going c.requires.some c.args.grammar.now.ends c.args.tree c.args.tag c.content_of-content.result
+          c.content_of-content.ensures.fine c.content_of-content.ensures.content s' q c.begin.ensures.new c.requires.room);
       depth = refl;
       ahead = ap (λ (m : ℕ). of_piece (t m) (content s' w.depth) (paused s' (w.waits + 1))) (sym n)
-          ∙ walk_adjoin g s w.depth w.waits p c.requires.going c.requires.some c.args.grammar.now.ends c.args.tree c.args.tag c.content-of-content.result
-          c.content-of-content.ensures.fine c.content-of-content.ensures.content s' q c.begin.ensures.new c.requires.room;
+          ∙ walk_adjoin g s w.depth w.waits p c.requires.going c.requires.some c.args.grammar.now.ends c.args.tree c.args.tag c.content_of-content.result
+          c.content_of-content.ensures.fine c.content_of-content.ensures.content s' q c.begin.ensures.new c.requires.room;
     }

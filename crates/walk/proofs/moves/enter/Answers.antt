@@ -5,8 +5,8 @@ use Rattle.grammar.specs.Grammars.{contents_in}
 use Rattle.walk.proofs.Goings.{going_on, Kept, from, enter_bare, going_foot, enter_foot}
 use Rattle.walk.proofs.moves.enter.Goals as goal
 
-pub returns-in-default-content : goal.returns-in-default-content
-returns-in-default-content c =
+pub returns-in_default-content : goal.returns-in_default-content
+returns-in_default-content c =
     let g = contents_in c.args.grammar.now in
     let s = c.args.stack.now in
     let w = c.args.w in
@@ -14,7 +14,7 @@ returns-in-default-content c =
     record {
       going = going_on g s w.depth w.waits w.here c.requires.going c.requires.some;
       depth = refl;
-      ahead = enter_bare g s w.depth w.waits w.here c.requires.going c.requires.some c.in-Foot.field-0 e c.in-default-content.is;
+      ahead = enter_bare g s w.depth w.waits w.here c.requires.going c.requires.some c.in-Foot.field-0 e c.in_default-content.is;
     }
 
 pub returns : goal.returns
