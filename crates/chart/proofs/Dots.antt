@@ -1,5 +1,5 @@
 -- A dot with a child after it is below 8.
-use Rattle.std.proofs.Common.{◌≡◌, ℕ, zero, suc, ◌<◌, ◌≤◌, List, [], ◌∷◌, length, get_or, Some, None, Option, sym, refl, ap, ◌∙◌, subst, arith}
+use Rattle.std.proofs.Common.{◌≡◌, ℕ, zero, suc, ◌<◌, ◌≤◌, List, [], ◌∷◌, length, get_or, refl, ap, arith}
 use native.Mathlib.Decide.{dec_lt}
 use lib.ListN.{get_or-eq_default}
 use Rattle.format.specs.declared.node.Kind.{Kind}
@@ -8,10 +8,10 @@ use Rattle.format.specs.declared.node.Node.{Node}
 use Rattle.format.specs.declared.spot.Spot.{Spot}
 use Rattle.format.specs.declared.spot.Spot.TheVariants.{Top, At}
 use Rattle.format.specs.declared.spot.Next.{Next}
-use Rattle.format.specs.declared.spot.Next.TheVariants.{End, Bottom, Child}
+use Rattle.format.specs.declared.spot.Next.TheVariants.{Bottom, Child}
 use Rattle.format.specs.Parts.{Contents, no_node}
 use Rattle.format.specs.Keeps.{nodes_in, node_in, is_inner, InnerArity}
-use Rattle.format.specs.Questions.{nth, roots_from, child_next, once, next_in, next_at_top, children_of, after_dot}
+use Rattle.format.specs.Questions.{nth, roots_from, child_next, once, next_in, next_at_top, after_dot}
 use Rattle.chart.specs.Early.{Early}
 
 nth_below : (vs : List Node) (k i d : ℕ) → Early (child_next (nth (roots_from vs k i) d)) d → (k ≤ 8) → Early (child_next (nth (roots_from vs k i) d)) d

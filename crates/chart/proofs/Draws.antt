@@ -1,5 +1,5 @@
 -- One conclusion drawn, by what the distinct list answers.
-use Rattle.std.proofs.Common.{◌≡◌, ℕ, suc, ◌+◌, ◌<◌, ◌≤◌, Bool, true, false, cond, List, [], ◌∷◌, ◌++◌, length, take, drop, set, vec_items, sym, refl, ap, ◌∙◌, arith}
+use Rattle.std.proofs.Common.{◌≡◌, ℕ, ◌+◌, ◌<◌, ◌≤◌, Bool, true, false, cond, List, [], ◌∷◌, ◌++◌, length, set, vec_items, sym, ap, ◌∙◌, arith}
 use Rattle.std.proofs.lemmas.List.{length-set, take_more_set, take-set, drop-set-lt}
 use Rattle.distinct.specs.declared.Added.{Added}
 use Rattle.distinct.specs.declared.Added.TheVariants.{Held, New, NoRoom}

@@ -1,12 +1,10 @@
 -- Sweeps with one premise fixed, and steps that a premise rules out.
-use Rattle.std.proofs.Common.{◌≡◌, ℕ, ◌+◌, ◌<◌, ◌≤◌, Bool, true, false, ◌&&◌, eqb, List, [], ◌∷◌, ◌++◌, get_or, take, is_some, Some, None, vec_items, Option, sym, refl, ap, ◌∙◌, arith}
+use Rattle.std.proofs.Common.{◌≡◌, ℕ, ◌+◌, ◌<◌, Bool, true, false, ◌&&◌, eqb, List, [], ◌++◌, get_or, take, is_some, Some, None, vec_items, Option, sym, refl, ap, ◌∙◌, arith}
 use Rattle.std.specs.Option.{option_to_list}
 use Rattle.format.specs.declared.spot.Spot.TheVariants.{At}
 use Rattle.format.specs.Parts.{Contents}
 use Rattle.steps.specs.declared.item.Item.{Item}
-use Rattle.steps.specs.declared.item.Origin.{Origin}
-use Rattle.steps.specs.declared.item.Origin.TheVariants.{Complete, FootComplete, AdjoinComplete}
-use Rattle.steps.specs.Items.{same_spot, joined, moved, item_at}
+use Rattle.steps.specs.Items.{same_spot, item_at}
 use Rattle.steps.specs.Orders.{each, pairs, PairStep}
 use Rattle.steps.specs.Conclusions.{when, site_of, stays, listed, finished, completes, complete_at, complete, starts_foot, lists_at, foots, foot_complete, whole, fills, adjoins, adjoin_at, adjoin_complete}
 use Rattle.chart.specs.declared.store.Store.{Store}

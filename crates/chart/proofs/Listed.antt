@@ -1,11 +1,11 @@
 -- Drawing the first items of the nodes that list a tree, node by node and tree by tree.
-use Rattle.std.proofs.Common.{◌≡◌, ℕ, zero, suc, ◌+◌, ◌<◌, ◌≤◌, Bool, true, false, cond, List, [], ◌∷◌, ◌++◌, map, length, get_or, take, drop, sym, refl, ap, ◌∙◌, append_assoc, append-nil, add-one, arith}
+use Rattle.std.proofs.Common.{◌≡◌, ℕ, zero, suc, ◌+◌, ◌<◌, Bool, true, false, cond, List, [], ◌∷◌, ◌++◌, map, length, get_or, take, sym, refl, ap, ◌∙◌, append_assoc, append-nil, arith}
 use Rattle.std.proofs.lemmas.List.{take_more, length-take-le}
 use Rattle.format.specs.declared.node.Node.{Node}
 use Rattle.format.specs.declared.spot.Site.{Site}
 use Rattle.format.specs.Parts.{Contents, no_node}
-use Rattle.format.specs.Keeps.{nodes_in, node_in, lists}
-use Rattle.format.specs.Questions.{listing_nodes, listing_trees, listing}
+use Rattle.format.specs.Keeps.{nodes_in, lists}
+use Rattle.format.specs.Questions.{listing_nodes, listing_trees}
 use Rattle.steps.specs.declared.item.Item.{Item}
 
 map_++ : {X Y : Type 0} (f : X → Y) (xs ys : List X) → map f (xs ++ ys) ≡ map f xs ++ map f ys

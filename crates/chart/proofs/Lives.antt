@@ -1,5 +1,5 @@
 -- Making a chart.
-use Rattle.std.proofs.Common.{◌≡◌, ℕ, ◌≤◌, Bool, true, false, cond, not, ◌&&◌, ltb, leb, List, [], is_ok, Ok, Err, Result, sym, refl, ap, ◌∙◌, arith, leb-true}
+use Rattle.std.proofs.Common.{◌≡◌, ℕ, ◌≤◌, Bool, true, false, cond, not, ◌&&◌, ltb, leb, [], is_ok, Ok, Err, sym, refl, ap, ◌∙◌, arith, leb-true}
 use Rattle.format.specs.Parts.{Contents}
 use Rattle.steps.specs.Items.{most_positions}
 use Rattle.steps.specs.Conclusions.{starts}

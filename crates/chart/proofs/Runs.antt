@@ -1,5 +1,5 @@
 -- Drawing one conclusion after another, and loops over held items.
-use Rattle.std.proofs.Common.{◌≡◌, ℕ, suc, ◌+◌, ◌-◌, ◌<◌, ◌≤◌, Bool, true, false, cond, List, [], ◌∷◌, ◌++◌, length, get_or, take, drop, vec_items, Option, sym, refl, ap, ◌∙◌, append_assoc, append-nil, le_trans, add-zero, add_assoc, add-suc, zero-add, add-one, arith}
+use Rattle.std.proofs.Common.{◌≡◌, ℕ, ◌+◌, ◌-◌, ◌<◌, ◌≤◌, Bool, true, cond, List, [], ◌∷◌, ◌++◌, length, get_or, take, drop, vec_items, Option, sym, refl, ap, ◌∙◌, append_assoc, append-nil, le_trans, add-zero, add-suc, zero-add, add-one, arith}
 use Rattle.std.proofs.lemmas.List.{take_more, get_or-take, length-take-le, take-take, drop-drop, get_or_default, take-append-drop}
 use Rattle.std.specs.Option.{option_to_list}
 use Rattle.steps.specs.declared.item.Item.{Item}

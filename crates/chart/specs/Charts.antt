@@ -1,5 +1,5 @@
 -- The life of a chart.
-use Rattle.std.specs.Prelude.{◌≡◌, ℕ, Bool, true, false, cond, ◌&&◌, List, [], length, drop, is_ok, Some, None, Ok, Err, vec_items, Option, Result, ◌==◌, nat_le, nat_lt}
+use Rattle.std.specs.Prelude.{◌≡◌, ℕ, Bool, true, cond, ◌&&◌, List, [], length, drop, is_ok, Some, None, Ok, Err, vec_items, Option, Result, ◌==◌, nat_le, nat_lt}
 use Rattle.format.specs.Parts.{Contents}
 use Rattle.grammar.specs.Grammars.{contents_in}
 use Rattle.words.specs.Meaning.{Meaning}

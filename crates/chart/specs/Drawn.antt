@@ -1,5 +1,5 @@
 -- The store of a chart after conclusions were drawn.
-use Rattle.std.specs.Prelude.{◌≡◌, ℕ, ◌≤◌, List, length, take, drop, vec_items}
+use Rattle.std.specs.Prelude.{◌≡◌, ◌≤◌, List, length, take, drop, vec_items}
 use Rattle.steps.specs.declared.item.Item.{Item}
 use Rattle.steps.specs.Runs.{State, draw_all}
 use Rattle.chart.specs.declared.store.Store.{Store}

@@ -1,5 +1,5 @@
 -- Bytes passed so far, and those that are left.
-use Rattle.std.proofs.Common.{◌≡◌, ℕ, ◌+◌, ◌-◌, ◌≤◌, List, [], ◌∷◌, ◌++◌, length, take, drop, sym, refl, ap, ◌∙◌, subst, append_assoc, arith, length-append, take-append-drop}
+use Rattle.std.proofs.Common.{◌≡◌, ℕ, ◌-◌, List, [], ◌∷◌, ◌++◌, length, take, sym, refl, ap, ◌∙◌, subst, append_assoc, arith, length-append, take-append-drop}
 use lib.Seq.{take-append_seam}
 use Rattle.format.specs.Fields.{Whole}
 use Rattle.format.specs.Parts.{pair}

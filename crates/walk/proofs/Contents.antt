@@ -1,8 +1,8 @@
 -- What comes at the foot of a tree under way.
-use Rattle.std.proofs.Common.{◌≡◌, ℕ, zero, suc, ◌<◌, ◌≤◌, List, Some, None, Option, sym, refl, ap, ◌∙◌, arith}
+use Rattle.std.proofs.Common.{◌≡◌, ℕ, zero, suc, ◌<◌, List, Some, None, Option, refl, ap, ◌∙◌, arith}
 use Rattle.walk.specs.declared.stack.Piece.{Piece}
 use Rattle.walk.specs.declared.stack.Frame.{Frame}
-use Rattle.walk.specs.Ahead.{Ahead, nothing, part}
+use Rattle.walk.specs.Ahead.{Ahead, nothing}
 use Rattle.walk.specs.Stacks.{frame_at, waiting_at, of_piece, content_by, content_in, content, paused}
 
 -- a content's tree is begun before

@@ -1,12 +1,11 @@
 -- What the guide keeps from move to move.
-use Rattle.std.proofs.Common.{◌≡◌, ℕ, ◌<◌, ◌≤◌, Bool, true, false, List, sym, refl, ap, ◌∙◌, subst, arith}
+use Rattle.std.proofs.Common.{◌≡◌, ℕ, ◌<◌, ◌≤◌, false, List, sym, refl, subst, arith}
 use Rattle.format.specs.declared.node.Kind.{Kind}
 use Rattle.format.specs.declared.node.Kind.TheVariants.{Inner, Word, Empty, Foot}
 use Rattle.format.specs.Parts.{Contents}
-use Rattle.format.specs.Keeps.{node_in}
 use Rattle.walk.specs.declared.stack.Frame.{Frame}
 use Rattle.walk.specs.declared.stack.Walk.{Walk}
-use Rattle.walk.specs.Ahead.{Ahead, nothing, part, entered}
+use Rattle.walk.specs.Ahead.{Ahead, part, entered}
 use Rattle.walk.specs.Sizes.{size}
 use Rattle.walk.specs.Stacks.{content, paused, ahead_of, UnderWay}
 use Rattle.walk.specs.Guided.{is_word, Led, PassedOn}

@@ -2,7 +2,7 @@
 --
 -- A guide makes the choices and hears the words. `H s₀ s c a` is what the guide keeps: it began as s₀, it stands as s, and `a` is still to walk in the grammar c. `P s₀ s c` is what holds where it
 -- stops the walk, and `L s` is how many choices it can still make.
-use Rattle.std.specs.Prelude.{◌≡◌, ℕ, suc, ◌+◌, ◌<◌, ◌≤◌, Bool, true, false, List, length, Some, None, Option}
+use Rattle.std.specs.Prelude.{◌≡◌, ℕ, ◌<◌, ◌≤◌, Bool, true, false, List, Some, None, Option}
 use Rattle.format.specs.declared.node.Kind.{Kind}
 use Rattle.format.specs.declared.node.Kind.TheVariants.{Inner, Word, Empty, Foot}
 use Rattle.format.specs.Parts.{Contents}

@@ -1,5 +1,5 @@
 -- What a stack and a walk under way mean.
-use Rattle.std.specs.Prelude.{◌≡◌, ℕ, zero, suc, ◌+◌, ◌-◌, ◌*◌, ◌/◌, ◌%◌, ◌<◌, ◌≤◌, Bool, true, false, List, length, Some, None, Option, ◌==◌, slice_index_or}
+use Rattle.std.specs.Prelude.{ℕ, zero, suc, ◌+◌, ◌-◌, ◌*◌, ◌/◌, ◌%◌, ◌<◌, ◌≤◌, Bool, true, false, List, length, Some, None, Option, ◌==◌, slice_index_or}
 use Rattle.format.specs.Parts.{Contents}
 use Rattle.format.specs.Keeps.{nodes_in, node_in}
 use Rattle.walk.specs.declared.stack.Piece.{Piece}

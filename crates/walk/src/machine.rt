@@ -40,7 +40,7 @@ fn lists_any(node: &Node) -> bool
 fn pass<G: Guide>(grammar: &Grammar, guide: &mut G, stack: &mut [Frame], w: Walk) -> Option<Walk>
     requires going { UnderWay (contents_in grammar.now) stack.old w }
     requires some { w.here.node < w.here.end }
-    ensures { Passed holds left (contents_in grammar.now) guide.old guide.new stack.old stack.new w result }
+    ensures { Passed G.holds G.left (contents_in grammar.now) guide.old guide.new stack.old stack.new w result }
 {
     let node = &grammar.nodes(w.here.tree)[w.here.node];
     if let Kind::Word(word) = node.kind {
@@ -61,7 +61,7 @@ fn next_choice<G: Guide>(
     start: Walk,
 ) -> Option<Walk>
     requires { UnderWay (contents_in grammar.now) stack.old start }
-    ensures { NextChoice holds left (contents_in grammar.now) (ahead_of stack.old start) guide.old guide.new stack.new start result }
+    ensures { NextChoice G.holds G.left (contents_in grammar.now) (ahead_of stack.old start) guide.old guide.new stack.new start result }
 {
     let mut w = start;
     loop {
@@ -101,7 +101,7 @@ pub fn walk<G: Guide>(
     tree: u8,
     tag: usize,
 ) -> Course
-    ensures { Guided holds stops left (contents_in grammar.now) (length stack.old) (whole_tree (contents_in grammar.now) tag tree) guide.old guide.new result }
+    ensures { Guided G.holds G.stops G.left (contents_in grammar.now) (length stack.old) (whole_tree (contents_in grammar.now) tag tree) guide.old guide.new result }
 {
     if stack.len() <= guide.choices_left() {
         return Course::SmallStack;

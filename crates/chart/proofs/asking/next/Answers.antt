@@ -1,4 +1,4 @@
-use Rattle.std.proofs.Common.{◌≡◌, sym, subst}
+use Rattle.std.proofs.Common.{sym, subst}
 use Rattle.format.specs.declared.spot.Next.{Next}
 use Rattle.grammar.specs.Grammars.{contents_in}
 use Rattle.chart.specs.Early.{Early}

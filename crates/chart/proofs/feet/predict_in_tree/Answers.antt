@@ -1,9 +1,7 @@
-use Rattle.std.proofs.Common.{◌≡◌, ℕ, ◌+◌, ◌<◌, ◌≤◌, Bool, cond, List, [], ◌∷◌, ◌++◌, map, length, get_or, take, sym, refl, ap, ◌∙◌, arith, take_all}
+use Rattle.std.proofs.Common.{Bool, cond, List, [], ◌∷◌, ◌++◌, map, length, get_or, take, sym, ap, ◌∙◌, arith, take_all}
 use Rattle.format.specs.declared.node.Node.{Node}
-use Rattle.format.specs.declared.spot.Site.{Site}
-use Rattle.format.specs.declared.spot.Spot.TheVariants.{At}
 use Rattle.format.specs.Parts.{no_node}
-use Rattle.format.specs.Keeps.{nodes_in, node_in, lists}
+use Rattle.format.specs.Keeps.{nodes_in}
 use Rattle.format.specs.Questions.{listing_nodes}
 use Rattle.grammar.specs.Grammars.{contents_in}
 use Rattle.grammar.proofs.Questions.{few_nodes}

@@ -1,4 +1,4 @@
-use Rattle.std.proofs.Common.{◌≡◌, ℕ, ◌+◌, List, ◌++◌, map, length, sym, ap, arith}
+use Rattle.std.proofs.Common.{◌≡◌, ℕ, ◌++◌, map, length, sym, ap, arith}
 use Rattle.format.specs.Keeps.{nodes_in}
 use Rattle.format.specs.Questions.{listing_nodes, listing_trees}
 use Rattle.grammar.specs.Grammars.{contents_in}

@@ -1,4 +1,4 @@
-use Rattle.std.proofs.Common.{◌≡◌, ℕ, ◌<◌, List, [], ◌++◌, ap, ◌∙◌}
+use Rattle.std.proofs.Common.{◌≡◌, [], ◌++◌, ap}
 use Rattle.steps.specs.declared.item.Item.{Item}
 use Rattle.chart.specs.Drawn.{Drawn, held_in}
 use Rattle.steps.specs.Items.{item_at}

@@ -1,4 +1,4 @@
-use Rattle.std.proofs.Common.{◌≡◌, ℕ, ◌-◌, length, vec_items, sym, ◌∙◌}
+use Rattle.std.proofs.Common.{◌-◌, length, vec_items, sym, ◌∙◌}
 use Rattle.grammar.specs.Grammars.{contents_in}
 use Rattle.chart.specs.Works.{working}
 use Rattle.chart.proofs.Works.{worked_stop, work_on}

@@ -1,4 +1,4 @@
-use Rattle.std.proofs.Common.{◌≡◌, ℕ, [], ◌∷◌, length, Option, sym, ap, ◌∙◌, arith}
+use Rattle.std.proofs.Common.{◌≡◌, ℕ, [], ◌∷◌, length, Option, ap, ◌∙◌, arith}
 use Rattle.format.specs.declared.spot.Spot.TheVariants.{Top}
 use Rattle.grammar.specs.Grammars.{contents_in}
 use Rattle.steps.specs.declared.item.Origin.TheVariants.{AdjoinPredict}

@@ -1,4 +1,4 @@
-use Rattle.std.proofs.Common.{◌≡◌, ℕ, ◌+◌, [], ◌∷◌, sym, ap, ◌∙◌, arith}
+use Rattle.std.proofs.Common.{◌≡◌, ℕ, ◌+◌, [], ◌∷◌, ap, arith}
 use Rattle.steps.specs.declared.item.Origin.TheVariants.{Scan}
 use Rattle.steps.specs.Items.{moved}
 use Rattle.steps.specs.Orders.{upto}

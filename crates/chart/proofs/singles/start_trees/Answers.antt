@@ -1,4 +1,4 @@
-use Rattle.std.proofs.Common.{◌≡◌, ℕ, [], ◌∷◌, length, sym, ap, ◌∙◌, arith}
+use Rattle.std.proofs.Common.{◌≡◌, ℕ, [], ◌∷◌, length, ap, arith}
 use Rattle.format.specs.declared.spot.Spot.TheVariants.{Top}
 use Rattle.format.specs.Questions.{may_start}
 use Rattle.grammar.specs.Grammars.{contents_in}

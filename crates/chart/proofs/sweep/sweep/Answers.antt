@@ -1,4 +1,4 @@
-use Rattle.std.proofs.Common.{◌≡◌, ℕ, ◌<◌, ◌≤◌, [], ◌∷◌, take, Some, None, ap, arith}
+use Rattle.std.proofs.Common.{◌≡◌, ℕ, [], ◌∷◌, take, ap, arith}
 use Rattle.std.specs.Option.{option_to_list}
 use Rattle.steps.specs.Orders.{each}
 use Rattle.chart.specs.Drawn.{held_in}

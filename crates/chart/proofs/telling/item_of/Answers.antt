@@ -1,5 +1,4 @@
-use Rattle.std.proofs.Common.{◌≡◌, ℕ, ◌<◌, Bool, cond, [], length, Ok, Err, sym, ap, ◌∙◌, arith, lt-ltb}
-use Rattle.steps.specs.declared.item.Item.{Item}
+use Rattle.std.proofs.Common.{◌<◌, Bool, cond, [], length, Ok, Err, sym, ap, ◌∙◌, arith, lt-ltb}
 use Rattle.steps.specs.Items.{item_at}
 use Rattle.chart.specs.declared.refusal.Refusal.TheVariants as refusals
 use Rattle.chart.specs.Drawn.{held_in}

@@ -1,4 +1,4 @@
-use Rattle.std.proofs.Common.{◌≡◌, ℕ, ◌<◌, sym, refl, ap, ◌∙◌, subst, arith}
+use Rattle.std.proofs.Common.{◌≡◌, sym, ap, ◌∙◌, subst, arith}
 use Rattle.grammar.specs.Grammars.{contents_in}
 use Rattle.walk.specs.Ahead.{Ahead, nothing}
 use Rattle.walk.specs.Stacks.{content, paused, ahead_of}

@@ -1,5 +1,4 @@
-use Rattle.std.proofs.Common.{◌≡◌, ℕ, ◌<◌, List, get_or, sym, refl, ap, ◌∙◌, subst}
-use Rattle.format.specs.declared.node.Kind.TheVariants.{Word}
+use Rattle.std.proofs.Common.{List, get_or, sym, refl, ap, ◌∙◌}
 use Rattle.format.specs.declared.node.Node.{Node}
 use Rattle.format.specs.Parts.{no_node}
 use Rattle.format.specs.Keeps.{taken_trees, any}
@@ -26,8 +25,8 @@ returns-then-lists_any g c =
     record {
       asks = record {
         inside = c.requires.some;
-        wordless = wordless _ (λ x h. c.in-default.not-Word x (ap (λ (vs : List Node). (get_or vs p.node no_node).kind) e ∙ h));
-        choice = ap (λ (vs : List Node). any (taken_trees (get_or vs p.node no_node).constraint)) (sym e) ∙ sym c.if-lists-any.ensures;
+        wordless = wordless _ (λ x h. c.in_default.not-Word x (ap (λ (vs : List Node). (get_or vs p.node no_node).kind) e ∙ h));
+        choice = ap (λ (vs : List Node). any (taken_trees (get_or vs p.node no_node).constraint)) (sym e) ∙ sym c.if-lists_any.ensures;
       };
       guide = refl;
       stack = refl;
@@ -43,5 +42,5 @@ returns g c =
     passed_on g.G.Guide.holds g.G.Guide.left d c.args.guide.now c.args.guide.now f c.enter-2.new.stack w c.enter-2.result c.requires.some
     c.enter-2.ensures.going c.enter-2.ensures.depth c.enter-2.ensures.ahead refl
     (λ s₀ h. g.G.Guide.silent s₀ c.args.guide.now d p.tag p.tree p.node p.end (content f p.frame) (paused f w.waits) c.requires.some
-    (wordless _ (λ x z. c.in-default.not-Word x (ap (λ (vs : List Node). (get_or vs p.node no_node).kind) e ∙ z)))
-    (ap (λ (vs : List Node). any (taken_trees (get_or vs p.node no_node).constraint)) (sym e) ∙ sym c.if-lists-any.ensures) h)
+    (wordless _ (λ x z. c.in_default.not-Word x (ap (λ (vs : List Node). (get_or vs p.node no_node).kind) e ∙ z)))
+    (ap (λ (vs : List Node). any (taken_trees (get_or vs p.node no_node).constraint)) (sym e) ∙ sym c.if-lists_any.ensures) h)

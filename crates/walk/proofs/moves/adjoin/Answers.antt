@@ -1,10 +1,10 @@
-use Rattle.std.proofs.Common.{◌≡◌, ℕ, ◌+◌, List, length, get_or, sym, refl, ap, ◌∙◌, subst, arith}
+use Rattle.std.proofs.Common.{ℕ, ◌+◌, List, length, get_or, sym, refl, ap, ◌∙◌, subst, arith}
 use Rattle.format.specs.declared.node.Node.{Node}
 use Rattle.format.specs.Parts.{no_node}
 use Rattle.format.specs.Keeps.{node_in}
 use Rattle.grammar.specs.Grammars.{contents_in}
 use Rattle.walk.specs.declared.stack.Piece.{Piece}
-use Rattle.walk.specs.Stacks.{of_piece, content, paused, waiting_at, Going}
+use Rattle.walk.specs.Stacks.{of_piece, content, paused, Going}
 use Rattle.walk.proofs.Goings.{Kept, from, going_adjoin, walk_adjoin}
 use Rattle.walk.proofs.moves.adjoin.Goals as goal
 

@@ -1,4 +1,4 @@
-use Rattle.std.proofs.Common.{◌≡◌, ℕ, suc, ◌-◌, sym, refl, ap, ◌∙◌, subst, arith}
+use Rattle.std.proofs.Common.{◌≡◌, suc, ◌-◌, sym, refl, ap, ◌∙◌, subst, arith}
 use Rattle.walk.specs.declared.stack.Piece.{Piece}
 use Rattle.walk.specs.Stacks.{of_piece, content, paused, Going}
 use Rattle.walk.proofs.Goings.{going_resume}

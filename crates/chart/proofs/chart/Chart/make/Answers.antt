@@ -1,8 +1,6 @@
-use Rattle.std.proofs.Common.{◌≡◌, ℕ, ◌≤◌, Bool, not, List, length, is_ok, vec_items, Result, sym, refl, ap, ◌∙◌, subst, arith}
+use Rattle.std.proofs.Common.{◌≡◌, ℕ, ◌≤◌, not, length, is_ok, vec_items, sym, refl, ap, ◌∙◌, subst, arith}
 use Rattle.grammar.specs.Grammars.{contents_in}
-use Rattle.steps.specs.declared.item.Item.{Item}
 use Rattle.steps.specs.Items.{most_positions}
-use Rattle.chart.specs.declared.refusal.Refusal.{Refusal}
 use Rattle.chart.specs.Drawn.{state_of}
 use Rattle.chart.specs.Charts.{judged}
 use Rattle.chart.proofs.Lives.{made_by, short_by}

@@ -1,5 +1,4 @@
-use Rattle.std.proofs.Common.{◌≡◌, ℕ, ◌+◌, ◌≤◌, List, length, vec_items, sym, refl, ap, ◌∙◌, arith}
-use Rattle.distinct.specs.declared.Added.{Added}
+use Rattle.std.proofs.Common.{List, refl, ap, ◌∙◌, arith}
 use Rattle.distinct.specs.declared.Added.TheVariants.{Held, New, NoRoom}
 use Rattle.distinct.specs.Adding.{answer}
 use Rattle.distinct.proofs.Adds.{lent_at}
