@@ -1,28 +1,26 @@
 -- The picks of an item are those of the derivation that is read off it.
-use Rattle.std.proofs.Common.{◌≡◌, ℕ, zero, suc, ◌+◌, ◌<◌, ◌≤◌, Bool, true, false, cond, not, ◌&&◌, ◌||◌, eqb, ltb, List, [], ◌∷◌, ◌++◌, length, get_or, take, is_some, Some, None, Option, sym, refl, ap, ◌∙◌, subst, append_assoc, append-nil, add-one, arith, length-append, ltb-true, le-ltb, lt-ltb, eq-eqb, eqb-true}
+use Rattle.std.proofs.Common.{◌≡◌, ℕ, zero, suc, ◌+◌, ◌<◌, ◌≤◌, Bool, true, false, List, [], ◌∷◌, ◌++◌, length, get_or, take, is_some, Some, None, Option, sym, refl, ap, ◌∙◌, subst, append_assoc, append-nil, arith, length-append}
 use native.Mathlib.Decide.{dec_lt}
 use Rattle.format.specs.declared.node.Kind.{Kind}
 use Rattle.format.specs.declared.node.Kind.TheVariants.{Inner, Word, Empty, Foot}
 use Rattle.format.specs.declared.node.Constraint.{Constraint}
 use Rattle.format.specs.declared.spot.Spot.{Spot}
-use Rattle.format.specs.declared.spot.Spot.TheVariants.{Top, At}
+use Rattle.format.specs.declared.spot.Spot.TheVariants.{At}
 use Rattle.format.specs.declared.spot.Next.{Next}
-use Rattle.format.specs.declared.spot.Next.TheVariants.{End, Bottom, Child}
+use Rattle.format.specs.declared.spot.Next.TheVariants.{Child}
 use Rattle.format.specs.Parts.{Contents}
 use Rattle.format.specs.Judge.{adjoinable}
-use Rattle.format.specs.Keeps.{nodes_in, node_in, taken_trees, any, is_inner, is_foot, Keeps}
+use Rattle.format.specs.Keeps.{nodes_in, node_in, taken_trees, any, is_inner, Keeps}
 use Rattle.format.specs.Questions.{children_of, after_dot}
 use Rattle.steps.specs.declared.item.Item.{Item}
-use Rattle.steps.specs.Items.{item_at}
-use Rattle.steps.specs.Conclusions.{listed}
 use Rattle.derivation.specs.Derivations.{Derivation, done, stay, adjoin, as_children, below_kind, below, tree_row}
-use Rattle.derivation.specs.Walks.{Event, choice, word, is_choice, met_kind, met, below_next, walk}
+use Rattle.derivation.specs.Walks.{Event, choice, is_choice, met_kind, met, below_next, walk}
 use Rattle.derivation.specs.Readings.{◌beside◌, derivation_of}
 use Rattle.derivation.proofs.Dots.{dot_past}
 use Rattle.walk.specs.declared.choice.Choice.{Choice}
 use Rattle.walk.specs.declared.choice.Choice.TheVariants.{Stay, Adjoin}
-use Rattle.spelling.specs.Tours.{from_node, tour, adjoined_events}
-use Rattle.spelling.proofs.Rows.{clash, Before, reach, reach_++, begin, Follows, dot_after, children_reach, leaf_children, node_tour, row_tour, row_++, children_tour, row_same, inside_same, node_step}
+use Rattle.spelling.specs.Tours.{from_node, adjoined_events}
+use Rattle.spelling.proofs.Rows.{clash, reach, reach_++, begin, Follows, dot_after, children_reach, leaf_children, node_tour, row_tour, row_++, children_tour, row_same, inside_same, node_step}
 
 -- Derivations of rows ------------------------------------------------------------------------------------------------------------
 

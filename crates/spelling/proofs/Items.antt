@@ -1,32 +1,28 @@
 -- Each item of a list whose items came by their steps: its picks are those of the derivation read off it.
-use Rattle.std.proofs.Common.{◌≡◌, ℕ, zero, suc, ◌+◌, ◌<◌, ◌≤◌, Bool, true, false, cond, not, ◌&&◌, eqb, ltb, List, [], ◌∷◌, ◌++◌, length, get_or, take, Some, None, Option, sym, refl, ap, ◌∙◌, subst, append-nil, add-one, arith, ltb-true, le-ltb, lt-ltb, eq-eqb, eqb-true}
-use Rattle.format.specs.declared.node.Kind.{Kind}
-use Rattle.format.specs.declared.node.Kind.TheVariants.{Inner, Word, Empty, Foot}
+use Rattle.std.proofs.Common.{◌≡◌, ℕ, zero, suc, ◌+◌, ◌<◌, Bool, true, false, cond, not, eqb, ltb, List, [], ◌∷◌, length, take, Some, Option, sym, refl, ap, ◌∙◌, subst, add-one, arith, ltb-true, le-ltb, lt-ltb, eq-eqb, eqb-true}
 use Rattle.format.specs.declared.spot.Spot.{Spot}
 use Rattle.format.specs.declared.spot.Spot.TheVariants.{Top, At}
 use Rattle.format.specs.declared.spot.Next.{Next}
 use Rattle.format.specs.declared.spot.Next.TheVariants.{End, Bottom, Child}
 use Rattle.format.specs.Parts.{Contents}
 use Rattle.format.specs.Judge.{adjoinable}
-use Rattle.format.specs.Keeps.{nodes_in, node_in, taken_trees, is_foot, Keeps}
-use Rattle.format.specs.Questions.{after_dot}
+use Rattle.format.specs.Keeps.{nodes_in, node_in, taken_trees, Keeps}
 use Rattle.steps.specs.declared.item.Item.{Item}
 use Rattle.steps.specs.declared.item.Origin.{Origin}
 use Rattle.steps.specs.declared.item.Origin.TheVariants.{Start, Scan, Predict, Complete, AdjoinPredict, FootPredict, FootComplete, AdjoinComplete}
 use Rattle.steps.specs.Items.{same_spot, item_at}
-use Rattle.steps.specs.Conclusions.{after, finished, stays, listed, whole, is_top}
+use Rattle.steps.specs.Conclusions.{after, finished, stays, listed, whole}
 use Rattle.theory.specs.Came.{moves, leaf_next, ends_at, plain_next, adjoined_next, foot_spot, came_by, came, Came}
-use Rattle.theory.proofs.Tests.{and_split, spot_true, top_true, foot_true}
-use Rattle.derivation.specs.Derivations.{Derivation, done, stay, adjoin, below, tree_row}
-use Rattle.derivation.specs.Walks.{Event, is_choice, walk}
+use Rattle.theory.proofs.Tests.{and_split, spot_true, foot_true}
+use Rattle.derivation.specs.Derivations.{Derivation, done, stay, adjoin, below}
+use Rattle.derivation.specs.Walks.{is_choice}
 use Rattle.derivation.specs.Readings.{◌beside◌, by_origin, derivation_of}
-use Rattle.derivation.proofs.Dots.{dot_last, foot_row, whole_top}
+use Rattle.derivation.proofs.Dots.{dot_last, foot_row}
 use Rattle.walk.specs.declared.choice.Choice.{Choice}
 use Rattle.walk.specs.declared.choice.Choice.TheVariants.{Stay, Adjoin}
 use Rattle.spelling.specs.Picks.{number_next, node_after, around, pick_by, pick_at}
-use Rattle.spelling.specs.Tours.{adjoined_events}
-use Rattle.spelling.proofs.Unwound.{Under, low, pick_is, read_is}
-use Rattle.spelling.proofs.Rows.{clash, begin, dot_after, row_tour}
+use Rattle.spelling.proofs.Unwound.{pick_is, read_is}
+use Rattle.spelling.proofs.Rows.{clash, begin, dot_after}
 use Rattle.spelling.proofs.Agree.{any_some, Part, Sibling, past, fresh_part, leaf_sibling, plain_sibling, adjoined_sibling}
 
 -- what a moved item shares with the one before

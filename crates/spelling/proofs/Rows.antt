@@ -1,5 +1,5 @@
 -- Rows of siblings, and the nodes that they go over.
-use Rattle.std.proofs.Common.{◌≡◌, ℕ, zero, suc, ◌+◌, ◌<◌, ◌≤◌, false, List, [], ◌∷◌, ◌++◌, length, get_or, take, Some, None, Option, sym, refl, ap, ◌∙◌, subst, append_assoc, append-nil, arith}
+use Rattle.std.proofs.Common.{◌≡◌, ℕ, zero, suc, ◌+◌, ◌<◌, ◌≤◌, false, List, [], ◌∷◌, ◌++◌, length, take, Some, None, Option, sym, refl, ap, ◌∙◌, subst, append_assoc, arith}
 use native.Mathlib.Decide.{dec_lt}
 use lib.ListN.{get_or-eq_default}
 use Rattle.format.specs.declared.node.Kind.{Kind}
@@ -12,7 +12,7 @@ use Rattle.format.specs.declared.spot.Next.TheVariants.{End, Bottom, Child}
 use Rattle.format.specs.Parts.{Contents, no_node}
 use Rattle.format.specs.Layout.{pass}
 use Rattle.format.specs.Keeps.{nodes_in, node_in, is_inner, Keeps}
-use Rattle.format.specs.Questions.{nth, child_next, once, next_in, next_at_top, roots_from, children_of, after_dot}
+use Rattle.format.specs.Questions.{nth, child_next, next_in, next_at_top, roots_from, children_of, after_dot}
 use Rattle.derivation.specs.Derivations.{as_children, below_kind, below_top, below}
 use Rattle.derivation.specs.Walks.{Event, is_choice}
 use Rattle.walk.specs.declared.choice.Choice.{Choice}

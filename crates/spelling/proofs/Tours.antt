@@ -1,5 +1,5 @@
 -- Tours through the nodes of a tree: how many turns they are given does not matter, only the picks on the way count, and they split where a subtree ends.
-use Rattle.std.proofs.Common.{◌≡◌, ℕ, zero, suc, ◌+◌, ◌<◌, ◌≤◌, Bool, true, false, cond, ltb, List, [], ◌∷◌, ◌++◌, length, get_or, Some, None, Option, sym, refl, ap, ◌∙◌, subst, append_assoc, arith, ltb-false, ltb-true, le-ltb, lt-ltb}
+use Rattle.std.proofs.Common.{◌≡◌, ℕ, zero, suc, ◌+◌, ◌<◌, ◌≤◌, Bool, true, false, cond, List, [], ◌∷◌, ◌++◌, length, Some, None, Option, sym, refl, ap, ◌∙◌, append_assoc, arith, le-ltb, lt-ltb}
 use native.Mathlib.Decide.{dec_lt}
 use lib.ListN.{get_or-eq_default}
 use Rattle.format.specs.declared.node.Kind.{Kind}
@@ -7,7 +7,7 @@ use Rattle.format.specs.declared.node.Kind.TheVariants.{Inner, Word, Empty, Foot
 use Rattle.format.specs.declared.node.Node.{Node}
 use Rattle.format.specs.Parts.{Contents, no_node}
 use Rattle.format.specs.Keeps.{nodes_in, node_in, taken_trees, any, Ends, Subtrees}
-use Rattle.derivation.specs.Walks.{Event, choice, word, is_choice}
+use Rattle.derivation.specs.Walks.{Event, choice, is_choice}
 use Rattle.walk.specs.declared.choice.Choice.{Choice}
 use Rattle.walk.specs.declared.choice.Choice.TheVariants.{Stay, Adjoin}
 use Rattle.spelling.specs.Tours.{picked, from_node, tour}

@@ -1,5 +1,5 @@
 -- What an item's premises give, by one step: the premises of an item that came by its step have smaller numbers.
-use Rattle.std.proofs.Common.{◌≡◌, ℕ, zero, suc, ◌+◌, ◌<◌, ◌≤◌, Bool, true, false, cond, ◌&&◌, eqb, ltb, List, length, Some, None, Option, sym, refl, ap, ◌∙◌, subst, arith, ltb-true}
+use Rattle.std.proofs.Common.{◌≡◌, ℕ, zero, suc, ◌<◌, true, ltb, List, length, Some, Option, refl, arith, ltb-true}
 use Rattle.format.specs.Parts.{Contents}
 use Rattle.steps.specs.declared.item.Item.{Item}
 use Rattle.steps.specs.declared.item.Origin.{Origin}
@@ -7,11 +7,11 @@ use Rattle.steps.specs.declared.item.Origin.TheVariants.{Start, Scan, Predict, C
 use Rattle.steps.specs.Items.{item_at}
 use Rattle.theory.specs.Came.{came_by, came, Came}
 use Rattle.theory.proofs.Tests.{and_split}
-use Rattle.derivation.specs.Derivations.{Derivation, done, stay, adjoin}
-use Rattle.derivation.specs.Readings.{◌beside◌, by_origin, read_off, derivation_of}
+use Rattle.derivation.specs.Derivations.{Derivation}
+use Rattle.derivation.specs.Readings.{by_origin, read_off, derivation_of}
 use Rattle.walk.specs.declared.choice.Choice.{Choice}
-use Rattle.walk.specs.declared.choice.Choice.TheVariants.{Stay, Adjoin}
-use Rattle.spelling.specs.Picks.{node_after, around, pick_by, pick_in, pick_at}
+use Rattle.walk.specs.declared.choice.Choice.TheVariants.{Stay}
+use Rattle.spelling.specs.Picks.{around, pick_by, pick_in, pick_at}
 
 -- premises stand below
 abbrev pub Under : ℕ → Origin → Type 0
