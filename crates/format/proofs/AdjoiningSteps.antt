@@ -1,6 +1,6 @@
 -- One more constraint of a description is one more adjoining field.
 use Rattle.std.proofs.Common.{◌≡◌, ℕ, suc, ◌<◌, true, false, List, [], ◌∷◌, ◌++◌, length, get_or, set, is_some, None, sym, refl, ap, ◌∙◌, subst, inl, inr, arith}
-use Rattle.std.specs.List.{AllByRecursion as All}
+use Rattle.std.specs.List.{AllByRecursion}
 use Rattle.format.specs.declared.stage.Phase.{Phase}
 use Rattle.format.specs.declared.stage.Phase.TheVariants.{Adjoinings}
 use Rattle.format.specs.declared.node.Kind.{Kind}
@@ -70,7 +70,7 @@ slot_there ts a r =
     let m = r.node_there in
     omega (arith, length_laid_out ts)
 
-all_there : (ts : List Elementary) (xs : List Adjoining) → All (AdjoiningRules ts) xs → All (λ x. slot (trees_from 0 ts) x.tree x.node < length (laid_out ts)) xs
+all_there : (ts : List Elementary) (xs : List Adjoining) → AllByRecursion (AdjoiningRules ts) xs → AllByRecursion (λ x. slot (trees_from 0 ts) x.tree x.node < length (laid_out ts)) xs
 all_there ts [] h = tt
 all_there ts (x ∷ xs) h = (slot_there ts x h.0, all_there ts xs h.1)
 
@@ -82,8 +82,8 @@ one_slot ts x a rx ra e =
     (sym (slot_is ts x.tree x.node rx.tree_there) ∙ (sym e ∙ slot_is ts a.tree a.node ra.tree_there))
 
 module _ (ts : List Elementary) (a : Adjoining) (ra : AdjoiningRules ts a) (nodes : List Node) (unset : (get_or nodes (slot (trees_from 0 ts) a.tree a.node) no_node).constraint ≡ None) where
-  apart_from : (xs : List Adjoining) → All (AdjoiningRules ts) xs → All (λ x. is_some (get_or nodes (slot (trees_from 0 ts) x.tree x.node) no_node).constraint ≡ true) xs
-      → All (λ x. Apart x a) xs
+  apart_from : (xs : List Adjoining) → AllByRecursion (AdjoiningRules ts) xs → AllByRecursion (λ x. is_some (get_or nodes (slot (trees_from 0 ts) x.tree x.node) no_node).constraint ≡ true) xs
+      → AllByRecursion (λ x. Apart x a) xs
   apart_from [] rs h = tt
   apart_from (x ∷ xs) rs h = (
     λ t n. nothing
@@ -96,14 +96,14 @@ module _ (ts : List Elementary) (a : Adjoining) (ra : AdjoiningRules ts a) (node
     apart_from xs rs.1 h.1,
   )
 
-not_at : (ts : List Elementary) (a : Adjoining) → AdjoiningRules ts a → (xs : List Adjoining) → All (AdjoiningRules ts) xs → All (λ x. Apart x a) xs
-    → All (λ x. slot (trees_from 0 ts) a.tree a.node ≡ slot (trees_from 0 ts) x.tree x.node → ⊥) xs
+not_at : (ts : List Elementary) (a : Adjoining) → AdjoiningRules ts a → (xs : List Adjoining) → AllByRecursion (AdjoiningRules ts) xs → AllByRecursion (λ x. Apart x a) xs
+    → AllByRecursion (λ x. slot (trees_from 0 ts) a.tree a.node ≡ slot (trees_from 0 ts) x.tree x.node → ⊥) xs
 not_at ts a ra [] rs h = tt
 not_at ts a ra (x ∷ xs) rs h = (λ e. let p = one_slot ts x a rs.0 ra e in h.0 p.0 p.1, not_at ts a ra xs rs.1 h.1)
 
 -- The step, both ways -------------------------------------------------------------------------------------------------
 
-module _ (ph : Phase) (l w : ℕ) (ts : List Elementary) (xs : List Adjoining) (rs : All (AdjoiningRules ts) xs) where
+module _ (ph : Phase) (l w : ℕ) (ts : List Elementary) (xs : List Adjoining) (rs : AllByRecursion (AdjoiningRules ts) xs) where
   abbrev us : List Tree
   us = trees_from 0 ts
 
@@ -114,7 +114,7 @@ module _ (ph : Phase) (l w : ℕ) (ts : List Elementary) (xs : List Adjoining) (
   grown a = ap (with_nodes (reached ph l w ts xs)) (sym (constrain_all_more us xs a (laid_out ts)))
 
   pub one_more : (body : List ℕ) (u : State) → ConstraintTaken (reached ph l w ts xs) body u
-      → (a : Adjoining) × (body ≡ body_of a) × AdjoiningRules ts a × All (λ x. Apart x a) xs × (u ≡ reached Adjoinings l w ts (xs ++ (a ∷ [])))
+      → (a : Adjoining) × (body ≡ body_of a) × AdjoiningRules ts a × AllByRecursion (λ x. Apart x a) xs × (u ≡ reached Adjoinings l w ts (xs ++ (a ∷ [])))
   one_more body u h =
       let t = h.0 in
       let n = h.1 in
@@ -139,7 +139,7 @@ module _ (ph : Phase) (l w : ℕ) (ts : List Elementary) (xs : List Adjoining) (
             (ap (λ (p : ℕ). constraint_of p h.3) o.1 ∙ same_constraint a) ∙ grown a),
       )
 
-  pub taken_more : (a : Adjoining) → AdjoiningRules ts a → All (λ x. Apart x a) xs → ConstraintTaken (reached ph l w ts xs) (body_of a) (reached Adjoinings l w ts (xs ++ (a ∷ [])))
+  pub taken_more : (a : Adjoining) → AdjoiningRules ts a → AllByRecursion (λ x. Apart x a) xs → ConstraintTaken (reached ph l w ts xs) (body_of a) (reached Adjoinings l w ts (xs ++ (a ∷ [])))
   taken_more a ra apart =
       let t = a.tree in
       let n = a.node in

@@ -1,7 +1,7 @@
 -- The constraints of a description, one after the other, and what the table then says of its nodes.
 use Rattle.std.proofs.Common.{◌≡◌, ℕ, zero, suc, ◌<◌, true, ◌⊎◌, List, [], ◌∷◌, ◌++◌, length, get_or, set, is_some, Some, None, sym, refl, ap, ◌∙◌, subst, inl, inr, arith, length-set, get_or-set_other, get_or-set_same}
 use Rattle.std.proofs.lemmas.Bool.{cases_eq}
-use Rattle.std.specs.List.{AllByRecursion as All}
+use Rattle.std.specs.List.{AllByRecursion}
 use Rattle.format.specs.declared.node.Node.{Node}
 use Rattle.format.specs.declared.node.Tree.{Tree}
 use Rattle.format.specs.declared.node.Constraint.{Constraint}
@@ -61,7 +61,7 @@ stays_set ts (x ∷ xs) ns i l h =
     one (inr ne) = ap is_some (set_elsewhere ns (at ts x) i (constraint_by x) ne) ∙ h
 
 -- every constraint of the list is set
-pub all_set : (ts : List Tree) (xs : List Adjoining) (ns : List Node) → All (λ x. at ts x < length ns) xs → All (λ x. is_some (get_or (constrain_all ts xs ns) (at ts x) no_node).constraint ≡ true) xs
+pub all_set : (ts : List Tree) (xs : List Adjoining) (ns : List Node) → AllByRecursion (λ x. at ts x < length ns) xs → AllByRecursion (λ x. is_some (get_or (constrain_all ts xs ns) (at ts x) no_node).constraint ≡ true) xs
 all_set ts [] ns h = tt
 all_set ts (x ∷ xs) ns h =
     let long = length-set ns (at ts x) (constrained (get_or ns (at ts x) no_node) (constraint_by x)) in (
@@ -69,12 +69,12 @@ all_set ts (x ∷ xs) ns h =
       all_set ts xs (constrain ts x ns) (moved xs h.1),
     )
   where
-    moved : (ys : List Adjoining) → All (λ y. at ts y < length ns) ys → All (λ y. at ts y < length (constrain ts x ns)) ys
+    moved : (ys : List Adjoining) → AllByRecursion (λ y. at ts y < length ns) ys → AllByRecursion (λ y. at ts y < length (constrain ts x ns)) ys
     moved [] q = tt
     moved (y ∷ ys) q = (omega (arith, length-set ns (at ts x) (constrained (get_or ns (at ts x) no_node) (constraint_by x)), q.0), moved ys q.1)
 
 -- and no other
-pub none_other : (ts : List Tree) (xs : List Adjoining) (ns : List Node) (i : ℕ) → All (λ x. i ≡ at ts x → ⊥) xs → (get_or ns i no_node).constraint ≡ None
+pub none_other : (ts : List Tree) (xs : List Adjoining) (ns : List Node) (i : ℕ) → AllByRecursion (λ x. i ≡ at ts x → ⊥) xs → (get_or ns i no_node).constraint ≡ None
     → (get_or (constrain_all ts xs ns) i no_node).constraint ≡ None
 none_other ts [] ns i h e = e
 none_other ts (x ∷ xs) ns i h e = none_other ts xs (constrain ts x ns) i h.1 (set_elsewhere ns (at ts x) i (constraint_by x) h.0 ∙ e)

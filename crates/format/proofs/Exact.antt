@@ -1,6 +1,6 @@
 -- A tree field is taken exactly when its body is the preorder of one tree by the rules.
 use Rattle.std.proofs.Common.{◌≡◌, ℕ, suc, ◌*◌, ◌%◌, ◌<◌, ◌≤◌, Bool, true, false, cond, eqb, ltb, leb, List, [], ◌∷◌, length, Some, None, Ok, Err, Option, Result, sym, refl, ap, ◌∙◌, subst, arith, ltb-true, lt-ltb, eq-eqb, eqb-true, le-leb, leb-true}
-use Rattle.std.specs.List.{AllByRecursion as All}
+use Rattle.std.specs.List.{AllByRecursion}
 use Rattle.std.proofs.lemmas.Bool.{and_parts, and_from, cond-true}
 use Rattle.format.specs.declared.node.Kind.{Kind}
 use Rattle.format.specs.declared.node.Kind.TheVariants.{Inner, Word, Empty, Foot}
@@ -62,7 +62,7 @@ kind_read labels words Empty h = refl
 kind_read labels words (Foot l) h = cond-true (named labels l) (Some (Foot l)) None (range_in labels l h)
 
 abbrev AllNamed : ℕ → ℕ → List Entry → Type 0
-AllNamed labels words es = All (λ e. Named labels words e.kind) es
+AllNamed labels words es = AllByRecursion (λ e. Named labels words e.kind) es
 
 -- what the nodes of whole fours are
 pub entries_spell : (labels words i : ℕ) (body : List ℕ) (es : List Entry) → length body % 4 ≡ 0 → entries labels words i body ≡ Ok es → Spells es body × AllNamed labels words es
@@ -113,11 +113,11 @@ is_arity (Word w) c h = eq-eqb c 0 h
 is_arity Empty c h = eq-eqb c 0 h
 is_arity (Foot l) c h = eq-eqb c 0 h
 
-pub arities_are : (es : List Entry) → arities es ≡ true → All (λ e. Arity e.kind e.children) es
+pub arities_are : (es : List Entry) → arities es ≡ true → AllByRecursion (λ e. Arity e.kind e.children) es
 arities_are [] h = tt
 arities_are (e ∷ es) h = let p = and_parts (arity e.kind e.children) (arities es) h in (arity_is e.kind e.children p.0, arities_are es p.1)
 
-pub are_arities : (es : List Entry) → All (λ e. Arity e.kind e.children) es → arities es ≡ true
+pub are_arities : (es : List Entry) → AllByRecursion (λ e. Arity e.kind e.children) es → arities es ≡ true
 are_arities [] h = refl
 are_arities (e ∷ es) h = and_from (arity e.kind e.children) (arities es) (is_arity e.kind e.children h.0) (are_arities es h.1)
 

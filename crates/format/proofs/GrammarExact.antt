@@ -1,6 +1,6 @@
 -- The judgement takes exactly the bytes that are a grammar, and every list of bytes is one grammar or has one fault.
 use Rattle.std.proofs.Common.{◌≡◌, ℕ, zero, suc, ◌+◌, ◌<◌, ◌≤◌, true, not, ◌||◌, ◌⊎◌, List, [], ◌∷◌, ◌++◌, length, Ok, Err, Result, sym, refl, ap, ◌∙◌, subst, inl, inr, append_assoc, append-nil, arith, length-append}
-use Rattle.std.specs.List.{AllByRecursion as All}
+use Rattle.std.specs.List.{AllByRecursion}
 use Rattle.format.specs.declared.fault.Fault.{Fault}
 use Rattle.format.specs.declared.stage.Phase.{Phase}
 use Rattle.format.specs.declared.stage.Phase.TheVariants.{Start, Trees, Adjoinings}
@@ -24,23 +24,23 @@ use Rattle.format.proofs.AdjoiningSteps.{reached, body_of, one_more, taken_more}
 
 -- Lists that grow at their end ----------------------------------------------------------------------------------------
 
-all_more : {X : Type 0} (P : X → Type 0) (xs : List X) (x : X) → All P xs → P x → All P (xs ++ (x ∷ []))
+all_more : {X : Type 0} (P : X → Type 0) (xs : List X) (x : X) → AllByRecursion P xs → P x → AllByRecursion P (xs ++ (x ∷ []))
 all_more P [] x h p = (p, tt)
 all_more P (y ∷ ys) x h p = (h.0, all_more P ys x h.1 p)
 
-all_first : {X : Type 0} (P : X → Type 0) (xs ys : List X) → All P (xs ++ ys) → All P xs
+all_first : {X : Type 0} (P : X → Type 0) (xs ys : List X) → AllByRecursion P (xs ++ ys) → AllByRecursion P xs
 all_first P [] ys h = tt
 all_first P (x ∷ xs) ys h = (h.0, all_first P xs ys h.1)
 
-all_here : {X : Type 0} (P : X → Type 0) (xs : List X) (x : X) (ys : List X) → All P (xs ++ (x ∷ ys)) → P x
+all_here : {X : Type 0} (P : X → Type 0) (xs : List X) (x : X) (ys : List X) → AllByRecursion P (xs ++ (x ∷ ys)) → P x
 all_here P [] x ys h = h.0
 all_here P (y ∷ xs) x ys h = all_here P xs x ys h.1
 
-once_more : (xs : List Adjoining) (a : Adjoining) → Once xs → All (λ x. Apart x a) xs → Once (xs ++ (a ∷ []))
+once_more : (xs : List Adjoining) (a : Adjoining) → Once xs → AllByRecursion (λ x. Apart x a) xs → Once (xs ++ (a ∷ []))
 once_more [] a o h = (tt, tt)
 once_more (x ∷ xs) a o h = (all_more (Apart x) xs a o.0 h.0, once_more xs a o.1 h.1)
 
-once_here : (xs : List Adjoining) (a : Adjoining) (ys : List Adjoining) → Once (xs ++ (a ∷ ys)) → All (λ x. Apart x a) xs
+once_here : (xs : List Adjoining) (a : Adjoining) (ys : List Adjoining) → Once (xs ++ (a ∷ ys)) → AllByRecursion (λ x. Apart x a) xs
 once_here [] a ys o = tt
 once_here (x ∷ xs) a ys o = (all_here (Apart x) xs a ys o.0, once_here xs a ys o.1)
 
@@ -70,18 +70,18 @@ retag tag tag' body body' bytes later t b h = subst (λ (n : ℕ). IsField n bod
 record ConstraintsLeft (l w : ℕ) (ts : List Elementary) (xs : List Adjoining) (bytes : List ℕ) (u : State) : Type 0 where
   more : List Adjoining
   spelled : AdjoiningFields more bytes
-  rules : All (AdjoiningRules ts) (xs ++ more)
+  rules : AllByRecursion (AdjoiningRules ts) (xs ++ more)
   once : Once (xs ++ more)
   holds : contents u ≡ contents_of (record { labels = l; words = w; trees = ts; adjoinings = xs ++ more })
   begun : Begun u.phase
 
-constraints_end : (ph : Phase) (l w : ℕ) (ts : List Elementary) (xs : List Adjoining) (bytes : List ℕ) (u : State) → Begun ph → All (AdjoiningRules ts) xs → Once xs
+constraints_end : (ph : Phase) (l w : ℕ) (ts : List Elementary) (xs : List Adjoining) (bytes : List ℕ) (u : State) → Begun ph → AllByRecursion (AdjoiningRules ts) xs → Once xs
     → bytes ≡ [] → reached ph l w ts xs ≡ u → ConstraintsLeft l w ts xs bytes u
 constraints_end ph l w ts xs bytes u b rs o e s =
     record {
       more = [];
       spelled = e;
-      rules = subst (All (AdjoiningRules ts)) (sym (append-nil xs)) rs;
+      rules = subst (AllByRecursion (AdjoiningRules ts)) (sym (append-nil xs)) rs;
       once = subst Once (sym (append-nil xs)) o;
       holds = ap contents (sym s) ∙ ap (λ (ys : List Adjoining). contents_of (record { labels = l; words = w; trees = ts; adjoinings = ys })) (sym (append-nil xs));
       begun = subst (λ (v : State). Begun v.phase) s b;
@@ -94,19 +94,19 @@ constraints_first l w ts xs a bytes later u f r =
     record {
       more = a ∷ r.more;
       spelled = (later, f, r.spelled);
-      rules = subst (All (AdjoiningRules ts)) e r.rules;
+      rules = subst (AllByRecursion (AdjoiningRules ts)) e r.rules;
       once = subst Once e r.once;
       holds = r.holds ∙ ap (λ (ys : List Adjoining). contents_of (record { labels = l; words = w; trees = ts; adjoinings = ys })) e;
       begun = r.begun;
     }
 
-constraints_only : (fs : List FieldOf) (l w : ℕ) (ts : List Elementary) (xs : List Adjoining) (bytes : List ℕ) (u : State) → All (AdjoiningRules ts) xs → Once xs
+constraints_only : (fs : List FieldOf) (l w : ℕ) (ts : List Elementary) (xs : List Adjoining) (bytes : List ℕ) (u : State) → AllByRecursion (AdjoiningRules ts) xs → Once xs
     → Chain (reached Adjoinings l w ts xs) fs bytes u → ConstraintsLeft l w ts xs bytes u
 constraints_only [] l w ts xs bytes u rs o c = constraints_end Adjoinings l w ts xs bytes u tt rs o c.0 c.1
 constraints_only (f ∷ fs) l w ts xs bytes u rs o c = by c.3.0 c.3.1 c.3.2 (λ ys. constraints_only fs l w ts ys c.0 u)
   where
     by : (g : Tag) → f.tag ≡ number_of g → BodyTaken Adjoinings (reached Adjoinings l w ts xs) g f.body c.1
-        → ((ys : List Adjoining) → All (AdjoiningRules ts) ys → Once ys → Chain (reached Adjoinings l w ts ys) fs c.0 u → ConstraintsLeft l w ts ys c.0 u)
+        → ((ys : List Adjoining) → AllByRecursion (AdjoiningRules ts) ys → Once ys → Chain (reached Adjoinings l w ts ys) fs c.0 u → ConstraintsLeft l w ts ys c.0 u)
         → ConstraintsLeft l w ts xs bytes u
     by tags.Header e h again = elim h [ ]
     by (tags.Tree m) e h again = elim h [ ]
@@ -122,19 +122,19 @@ record TreesLeft (l w : ℕ) (ts : List Elementary) (bytes : List ℕ) (u : Stat
   more : List Elementary
   later : List ℕ
   spelled : TreeFields more bytes later
-  rules : All (TreeRules l w) (ts ++ more)
+  rules : AllByRecursion (TreeRules l w) (ts ++ more)
   few_trees : length (ts ++ more) ≤ 64
   few_nodes : sizes (ts ++ more) ≤ 256
   constraints : ConstraintsLeft l w (ts ++ more) [] later u
 
-trees_end : (l w : ℕ) (ts : List Elementary) (bytes : List ℕ) (u : State) → All (TreeRules l w) ts → length ts ≤ 64 → sizes ts ≤ 256 → ConstraintsLeft l w ts [] bytes u → TreesLeft l w ts bytes u
+trees_end : (l w : ℕ) (ts : List Elementary) (bytes : List ℕ) (u : State) → AllByRecursion (TreeRules l w) ts → length ts ≤ 64 → sizes ts ≤ 256 → ConstraintsLeft l w ts [] bytes u → TreesLeft l w ts bytes u
 trees_end l w ts bytes u rs few small c =
     let e = sym (append-nil ts) in
     record {
       more = [];
       later = bytes;
       spelled = refl;
-      rules = subst (All (TreeRules l w)) e rs;
+      rules = subst (AllByRecursion (TreeRules l w)) e rs;
       few_trees = subst (λ (us : List Elementary). length us ≤ 64) e few;
       few_nodes = subst (λ (us : List Elementary). sizes us ≤ 256) e small;
       constraints = subst (λ (us : List Elementary). ConstraintsLeft l w us [] bytes u) e c;
@@ -148,19 +148,19 @@ trees_first l w ts t body bytes later u f s r =
       more = t ∷ r.more;
       later = r.later;
       spelled = (body, later, f, s, r.spelled);
-      rules = subst (All (TreeRules l w)) e r.rules;
+      rules = subst (AllByRecursion (TreeRules l w)) e r.rules;
       few_trees = subst (λ (us : List Elementary). length us ≤ 64) e r.few_trees;
       few_nodes = subst (λ (us : List Elementary). sizes us ≤ 256) e r.few_nodes;
       constraints = subst (λ (us : List Elementary). ConstraintsLeft l w us [] r.later u) e r.constraints;
     }
 
-trees_only : (fs : List FieldOf) (l w : ℕ) (ts : List Elementary) (bytes : List ℕ) (u : State) → All (TreeRules l w) ts → length ts ≤ 64 → sizes ts ≤ 256
+trees_only : (fs : List FieldOf) (l w : ℕ) (ts : List Elementary) (bytes : List ℕ) (u : State) → AllByRecursion (TreeRules l w) ts → length ts ≤ 64 → sizes ts ≤ 256
     → Chain (reached Trees l w ts []) fs bytes u → TreesLeft l w ts bytes u
 trees_only [] l w ts bytes u rs few small c = trees_end l w ts bytes u rs few small (constraints_end Trees l w ts [] bytes u tt tt tt c.0 c.1)
 trees_only (f ∷ fs) l w ts bytes u rs few small c = by c.3.0 c.3.1 c.3.2 (λ us. trees_only fs l w us c.0 u)
   where
     by : (g : Tag) → f.tag ≡ number_of g → BodyTaken Trees (reached Trees l w ts []) g f.body c.1
-        → ((us : List Elementary) → All (TreeRules l w) us → length us ≤ 64 → sizes us ≤ 256 → Chain (reached Trees l w us []) fs c.0 u → TreesLeft l w us c.0 u)
+        → ((us : List Elementary) → AllByRecursion (TreeRules l w) us → length us ≤ 64 → sizes us ≤ 256 → Chain (reached Trees l w us []) fs c.0 u → TreesLeft l w us c.0 u)
         → TreesLeft l w ts bytes u
     by tags.Header e h again = elim h [ ]
     by (tags.Tree m) e h again =
@@ -236,13 +236,13 @@ taken_in Start s u body b h = elim b [ ]
 taken_in Trees s u body b h = h
 taken_in Adjoinings s u body b h = h
 
-all_constraints : (more : List Adjoining) (ph : Phase) (l w : ℕ) (ts : List Elementary) (xs : List Adjoining) (bytes : List ℕ) → Begun ph → All (AdjoiningRules ts) (xs ++ more) → Once (xs ++ more)
+all_constraints : (more : List Adjoining) (ph : Phase) (l w : ℕ) (ts : List Elementary) (xs : List Adjoining) (bytes : List ℕ) → Begun ph → AllByRecursion (AdjoiningRules ts) (xs ++ more) → Once (xs ++ more)
     → AdjoiningFields more bytes → Leads (reached ph l w ts xs) bytes (contents_of (record { labels = l; words = w; trees = ts; adjoinings = xs ++ more }))
 all_constraints [] ph l w ts xs bytes b rs o h =
     ([], reached ph l w ts xs, (h, refl), b, ap (λ (ys : List Adjoining). contents_of (record { labels = l; words = w; trees = ts; adjoinings = ys })) (sym (append-nil xs)))
 all_constraints (a ∷ more) ph l w ts xs bytes b rs o h =
     let e = shift xs a more in
-    let r = all_constraints more Adjoinings l w ts (xs ++ (a ∷ [])) h.0 tt (subst (All (AdjoiningRules ts)) (sym e) rs) (subst Once (sym e) o) h.2 in
+    let r = all_constraints more Adjoinings l w ts (xs ++ (a ∷ [])) h.0 tt (subst (AllByRecursion (AdjoiningRules ts)) (sym e) rs) (subst Once (sym e) o) h.2 in
     let t = taken_more ph l w ts xs (all_first (AdjoiningRules ts) xs (a ∷ more) rs) a (all_here (AdjoiningRules ts) xs a more rs) (once_here xs a more o) in
     one_field (reached ph l w ts xs) (reached Adjoinings l w ts (xs ++ (a ∷ []))) 4 (body_of a) bytes h.0
     (contents_of (record { labels = l; words = w; trees = ts; adjoinings = xs ++ (a ∷ more) })) h.1 (tags.Adjoining, refl, taken_in ph (reached ph l w ts xs) _ (body_of a) b t)
@@ -252,17 +252,17 @@ sizes_++ : (ts us : List Elementary) → sizes (ts ++ us) ≡ sizes ts + sizes u
 sizes_++ [] us = omega arith
 sizes_++ (t ∷ ts) us = let e = sizes_++ ts us in omega arith
 
-all_trees : (more : List Elementary) (l w : ℕ) (ts : List Elementary) (xs : List Adjoining) (bytes later : List ℕ) → All (TreeRules l w) more → length (ts ++ more) ≤ 64 → sizes (ts ++ more) ≤ 256
-    → All (AdjoiningRules (ts ++ more)) xs → Once xs → TreeFields more bytes later → AdjoiningFields xs later
+all_trees : (more : List Elementary) (l w : ℕ) (ts : List Elementary) (xs : List Adjoining) (bytes later : List ℕ) → AllByRecursion (TreeRules l w) more → length (ts ++ more) ≤ 64 → sizes (ts ++ more) ≤ 256
+    → AllByRecursion (AdjoiningRules (ts ++ more)) xs → Once xs → TreeFields more bytes later → AdjoiningFields xs later
     → Leads (reached Trees l w ts []) bytes (contents_of (record { labels = l; words = w; trees = ts ++ more; adjoinings = xs }))
 all_trees [] l w ts xs bytes later rs few small ra o h k =
     let e = append-nil ts in
     subst (λ (us : List Elementary). Leads (reached Trees l w ts []) bytes (contents_of (record { labels = l; words = w; trees = us; adjoinings = xs }))) (sym e)
-    (all_constraints xs Trees l w ts [] bytes tt (subst (λ (us : List Elementary). All (AdjoiningRules us) xs) e ra) o (subst (AdjoiningFields xs) (sym h) k))
+    (all_constraints xs Trees l w ts [] bytes tt (subst (λ (us : List Elementary). AllByRecursion (AdjoiningRules us) xs) e ra) o (subst (AdjoiningFields xs) (sym h) k))
 all_trees (t ∷ more) l w ts xs bytes later rs few small ra o h k =
     let e = shift ts t more in
     let r = all_trees more l w (ts ++ (t ∷ [])) xs h.1 later rs.1 (subst (λ (us : List Elementary). length us ≤ 64) (sym e) few) (subst (λ (us : List Elementary). sizes us ≤ 256) (sym e) small)
-    (subst (λ (us : List Elementary). All (AdjoiningRules us) xs) (sym e) ra) o h.4 k in
+    (subst (λ (us : List Elementary). AllByRecursion (AdjoiningRules us) xs) (sym e) ra) o h.4 k in
     let b : TreeBody (reached Trees l w ts []) t h.0 = record {
       rules = rs.0;
       bytes = h.3;

@@ -3,7 +3,7 @@ use Rattle.std.proofs.Common.{◌≡◌, ℕ, zero, suc, ◌+◌, ◌<◌, ◌�
 use native.Mathlib.Decide.{dec_lt}
 use lib.ListN.{get_or-eq_default}
 use lib.Seq.{take-append-le}
-use Rattle.std.specs.List.{AllByRecursion as All}
+use Rattle.std.specs.List.{AllByRecursion}
 use Rattle.std.proofs.lemmas.Bool.{cases_eq}
 use Rattle.format.specs.declared.node.Kind.{Kind}
 use Rattle.format.specs.declared.node.Kind.TheVariants.{Inner, Word, Empty, Foot}
@@ -99,7 +99,7 @@ part_of (x ∷ ts) (suc t) h =
 
 -- Lookups ---------------------------------------------------------------------------------------------------------------
 
-all_at : {X : Type 0} (P : X → Type 0) (xs : List X) (d : X) (n : ℕ) → All P xs → n < length xs → P (get_or xs n d)
+all_at : {X : Type 0} (P : X → Type 0) (xs : List X) (d : X) (n : ℕ) → AllByRecursion P xs → n < length xs → P (get_or xs n d)
 all_at P [] d n h l = elim (let f : ⊥ = omega arith in f) [ ]
 all_at P (x ∷ xs) d zero h l = h.0
 all_at P (x ∷ xs) d (suc n) h l = all_at P xs d n h.1 (omega arith)
@@ -140,18 +140,18 @@ count_feet (v ∷ vs) = by v.kind (count_feet vs)
     by Empty e = omega arith
     by (Foot l) e = omega arith
 
-foot_among : (P : ℕ → Type 0) (es : List Entry) (n : ℕ) → All P (feet es) → n < length es → is_foot (get_or es n no_entry).kind ≡ true → P (label_of_kind (get_or es n no_entry).kind)
+foot_among : (P : ℕ → Type 0) (es : List Entry) (n : ℕ) → AllByRecursion P (feet es) → n < length es → is_foot (get_or es n no_entry).kind ≡ true → P (label_of_kind (get_or es n no_entry).kind)
 foot_among P [] n h l e = elim (let f : ⊥ = omega arith in f) [ ]
 foot_among P (x ∷ es) zero h l e = by x.kind h e
   where
-    by : (k : Kind) → All P (feet_before k (feet es)) → is_foot k ≡ true → P (label_of_kind k)
+    by : (k : Kind) → AllByRecursion P (feet_before k (feet es)) → is_foot k ≡ true → P (label_of_kind k)
     by (Inner l) h e = nothing (let z : ◌≡◌ {A = ℕ} 0 1 = cc in z)
     by (Word w) h e = nothing (let z : ◌≡◌ {A = ℕ} 0 1 = cc in z)
     by Empty h e = nothing (let z : ◌≡◌ {A = ℕ} 0 1 = cc in z)
     by (Foot l) h e = h.0
 foot_among P (x ∷ es) (suc n) h l e = foot_among P es n (by x.kind h) (omega arith) e
   where
-    by : (k : Kind) → All P (feet_before k (feet es)) → All P (feet es)
+    by : (k : Kind) → AllByRecursion P (feet_before k (feet es)) → AllByRecursion P (feet es)
     by (Inner l) h = h
     by (Word w) h = h
     by Empty h = h
@@ -161,9 +161,9 @@ feet_count_due : (f : Form) (l : ℕ) (fs : List ℕ) → Footed f l fs → leng
 feet_count_due Initial l fs h = ap length h
 feet_count_due Auxiliary l fs h = ap length h
 
-feet_labelled : (f : Form) (l : ℕ) (fs : List ℕ) → Footed f l fs → All (λ x. x ≡ l) fs
-feet_labelled Initial l fs h = subst (All (λ x. x ≡ l)) (sym h) tt
-feet_labelled Auxiliary l fs h = subst (All (λ x. x ≡ l)) (sym h) (refl, tt)
+feet_labelled : (f : Form) (l : ℕ) (fs : List ℕ) → Footed f l fs → AllByRecursion (λ x. x ≡ l) fs
+feet_labelled Initial l fs h = subst (AllByRecursion (λ x. x ≡ l)) (sym h) tt
+feet_labelled Auxiliary l fs h = subst (AllByRecursion (λ x. x ≡ l)) (sym h) (refl, tt)
 
 -- Kinds -----------------------------------------------------------------------------------------------------------------
 
@@ -259,7 +259,7 @@ set_read ns i c k q = by (dec_lt i (length ns))
 abbrev From : (Adjoining → Type 0) → List Tree → ℕ → Constraint → Type 0
 From P us i k = (x : Adjoining) × P x × (i ≡ slot us x.tree x.node) × (constraint_by x ≡ k)
 
-origin : (P : Adjoining → Type 0) (us : List Tree) (xs : List Adjoining) (ns : List Node) (i : ℕ) (k : Constraint) → All P xs → (get_or (constrain_all us xs ns) i no_node).constraint ≡ Some k
+origin : (P : Adjoining → Type 0) (us : List Tree) (xs : List Adjoining) (ns : List Node) (i : ℕ) (k : Constraint) → AllByRecursion P xs → (get_or (constrain_all us xs ns) i no_node).constraint ≡ Some k
     → ((get_or ns i no_node).constraint ≡ Some k) ⊎ From P us i k
 origin P us [] ns i k h e = inl e
 origin P us (x ∷ xs) ns i k h e = by (origin P us xs (constrain us x ns) i k h.1 e) (cases_eq i (slot us x.tree x.node))

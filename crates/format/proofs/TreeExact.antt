@@ -8,7 +8,7 @@ use Rattle.format.specs.declared.fault.Rule.TheVariants as broken
 use Rattle.format.specs.Trees.{Row, none, node, size, Entry, flatten, plant, alone}
 use Rattle.format.specs.Judge.{State, refuse, refusal, entries, arities, one_tree, inner_root, feet_right, root_label, judge_feet, judge_shape, judge_tree, added, add_tree, whole_nodes, room}
 use Rattle.format.specs.Format.{Elementary, as_row, preorder, Spells, Named}
-use Rattle.std.specs.List.{AllByRecursion as All}
+use Rattle.std.specs.List.{AllByRecursion}
 use Rattle.format.proofs.Planted.{plant_flatten, flatten_plant}
 use Rattle.format.proofs.Cases.{nothing, never, passes}
 use Rattle.format.proofs.Exact.{entries_spell, spelled_entries, arities_are, are_arities, feet_are, are_feet}
@@ -84,7 +84,7 @@ only_trees s u f body h =
       refl,
       record {
         rules = record {
-          named = subst (λ (l : List Entry). All (λ e. Named s.labels s.words e.kind) l) (sym pre) sp.1;
+          named = subst (λ (l : List Entry). AllByRecursion (λ e. Named s.labels s.words e.kind) l) (sym pre) sp.1;
           counted = arities_are (flatten row) (ap arities pre ∙ k.3);
           footed = feet_are f k.0 (feet (flatten row)) (ap (λ (l : List Entry). feet_right f k.0 (feet l)) pre ∙ (ap (λ (x : Row). feet_right f (root_label x) (feet es)) (sym k.2) ∙ b.3));
         };

@@ -1,6 +1,6 @@
 -- What bytes are a grammar, in the format's own words.
 use Rattle.std.specs.Prelude.{◌≡◌, ℕ, suc, ◌+◌, ◌<◌, ◌≤◌, List, [], ◌∷◌, ◌++◌, length, get_or, ◌≢◌, slice_index_or, slice_set}
-use Rattle.std.specs.List.{AllByRecursion as All}
+use Rattle.std.specs.List.{AllByRecursion}
 use Rattle.format.specs.declared.node.Kind.{Kind}
 use Rattle.format.specs.declared.node.Kind.TheVariants.{Inner, Word, Empty, Foot}
 use Rattle.format.specs.declared.node.Form.{Form}
@@ -48,8 +48,8 @@ Footed Initial l fs = fs ≡ []
 Footed Auxiliary l fs = fs ≡ l ∷ []
 
 pub record TreeRules (labels words : ℕ) (t : Elementary) : Type 0 where
-  pub named : All (λ e. Named labels words e.kind) (preorder t)
-  pub counted : All (λ e. Arity e.kind e.children) (preorder t)
+  pub named : AllByRecursion (λ e. Named labels words e.kind) (preorder t)
+  pub counted : AllByRecursion (λ e. Arity e.kind e.children) (preorder t)
   pub footed : Footed t.form t.label (feet (preorder t))
 
 -- Adjoining constraints -------------------------------------------------------------------------------------------------
@@ -105,7 +105,7 @@ Apart a b = a.tree ≡ b.tree → a.node ≢ b.node
 
 abbrev pub Once : List Adjoining → Type 0
 Once [] = Unit {0}
-Once (a ∷ more) = All (Apart a) more × Once more
+Once (a ∷ more) = AllByRecursion (Apart a) more × Once more
 
 -- Grammars --------------------------------------------------------------------------------------------------------------
 
@@ -124,11 +124,11 @@ sizes (t ∷ ts) = size (as_row t) + sizes ts
 pub record Rules (d : Description) : Type 0 where
   pub some_labels : 0 < d.labels
   pub some_words : 0 < d.words
-  pub trees : All (TreeRules d.labels d.words) d.trees
+  pub trees : AllByRecursion (TreeRules d.labels d.words) d.trees
   pub few_trees : length d.trees ≤ 64
   pub few_nodes : sizes d.trees ≤ 256
   pub initial : (t : ℕ) × (t < length d.trees) × ((tree_at d.trees t).form ≡ Initial)
-  pub adjoinings : All (AdjoiningRules d.trees) d.adjoinings
+  pub adjoinings : AllByRecursion (AdjoiningRules d.trees) d.adjoinings
   pub once : Once d.adjoinings
 
 -- Bytes -----------------------------------------------------------------------------------------------------------------
