@@ -1,4 +1,6 @@
 //! What a line asks for.
+use std::num::ParseIntError;
+use std::str::FromStr;
 
 /// A line of the input.
 #[derive(Clone, Copy)]
@@ -16,19 +18,8 @@ pub enum Command {
 }
 
 /// The number that a part of a line stands for, if it is one.
-fn position(part: Option<&str>) -> Option<u32> {
-    match part {
-        Some(text) => text.parse::<u32>().ok(),
-        None => None,
-    }
-}
-
-/// The word that a part of a line stands for, if it is one.
-fn word(part: Option<&str>) -> Option<u16> {
-    match part {
-        Some(text) => text.parse::<u16>().ok(),
-        None => None,
-    }
+fn number<N: FromStr<Err = ParseIntError>>(part: Option<&str>) -> Option<N> {
+    part?.parse().ok()
 }
 
 /// The command that a line gives, if it gives one.
@@ -36,22 +27,22 @@ pub fn parse(line: &str) -> Option<Command> {
     let mut parts = line.split_whitespace();
     match parts.next()? {
         "lattice" => Some(Command::Lattice {
-            last: position(parts.next())?,
-            capacity: position(parts.next())?,
+            last: number(parts.next())?,
+            capacity: number(parts.next())?,
         }),
         "edge" => Some(Command::Edge {
-            from: position(parts.next())?,
-            word: word(parts.next())?,
-            to: position(parts.next())?,
+            from: number(parts.next())?,
+            word: number(parts.next())?,
+            to: number(parts.next())?,
         }),
         "window" => Some(Command::Window {
-            from: position(parts.next())?,
-            to: position(parts.next())?,
+            from: number(parts.next())?,
+            to: number(parts.next())?,
         }),
         "ask" => Some(Command::Ask {
-            from: position(parts.next())?,
-            word: word(parts.next())?,
-            to: position(parts.next())?,
+            from: number(parts.next())?,
+            word: number(parts.next())?,
+            to: number(parts.next())?,
         }),
         "last" => Some(Command::Last),
         _ => None,

@@ -2,18 +2,12 @@
 ghost use Rattle.std.specs.Prelude.{◌≡◌, IfOk, None};
 ghost use Rattle.words.specs.Edges.{empty_lattice};
 ghost use Rattle.words.specs.Lattices.{edge_answer, lattice_meaning, list_after, list_of};
-ghost use Rattle.askwords.specs.Replies.{judged_reply, number_reply, edge_reply, last_reply, Answered};
+ghost use Rattle.askwords.specs.Replies.{edge_answers, last_answers, Answered};
 
 use crate::command::Command;
-use crate::reply::Reply;
+use crate::reply::{Answer, Both, HasEdge, Reply};
 use std::alloc::{AllocError, Global};
 use words::{Edge, Lattice, Refusal, Source, Window, judge_lattice, judge_window};
-
-const NO_EDGE: Edge = Edge {
-    from: 0,
-    word: 0,
-    to: 0,
-};
 
 /// The positions of a lattice between which a window lies.
 #[derive(Clone, Copy)]
@@ -27,15 +21,6 @@ pub struct Span {
 pub struct Desk {
     lattice: Lattice,
     span: Option<Span>,
-}
-
-fn judged(judgement: Result<(), Refusal>) -> Reply
-    ensures { result ≡ judged_reply judgement }
-{
-    match judgement {
-        Ok(()) => Reply::Taken,
-        Err(refusal) => Reply::Refused(refusal),
-    }
 }
 
 impl Desk {
@@ -56,52 +41,44 @@ impl Desk {
     {
         match command {
             Command::Lattice { last, capacity } => {
-                let memory = vec![in heap; NO_EDGE; capacity as usize]?;
+                let memory = vec![in heap; Edge::default(); capacity as usize]?;
                 self.lattice = Lattice::new(memory, last);
                 self.span = None;
-                Ok(judged(judge_lattice(last)))
+                Ok(judge_lattice(last).map(|()| Answer::Taken))
             }
-            Command::Edge { from, word, to } => Ok(self.add(from, word, to)),
+            Command::Edge { from, word, to } => Ok(
+                self.lattice.add_edge(from, word, to).map(Answer::Number),
+            ),
             Command::Window { from, to } => {
                 self.span = Some(Span { from, to });
-                Ok(judged(judge_window(&self.lattice, from, to)))
+                Ok(judge_window(&self.lattice, from, to).map(|()| Answer::Taken))
             }
-            Command::Ask { from, word, to } => Ok(self.ask(from, word, to)),
-            Command::Last => Ok(self.last()),
+            Command::Ask { from, word, to } => Ok(Ok(Answer::Edge(self.ask(from, word, to)))),
+            Command::Last => Ok(Ok(Answer::Last(self.last()))),
         }
     }
 
-    fn add(&mut self, from: u32, word: u16, to: u32) -> Reply
-        ensures answer { result ≡ number_reply (edge_answer self.old.lattice from word to) }
-        ensures edges { list_of self.new.lattice ≡ list_after self.old.lattice from word to }
-        ensures last { self.new.lattice.last ≡ self.old.lattice.last }
-        ensures span { self.new.span ≡ self.old.span }
+    /// Whether the lattice and the window have an edge.
+    fn ask(&self, from: u32, word: u16, to: u32) -> Both<HasEdge>
+        ensures { result ≡ edge_answers self.now from word to }
     {
-        match self.lattice.add_edge(from, word, to) {
-            Ok(number) => Reply::Number(number),
-            Err(refusal) => Reply::Refused(refusal),
+        Both {
+            lattice: HasEdge(self.lattice.has_edge(from, word, to)),
+            window: self.span.map(|span| {
+                HasEdge(Window::new(&self.lattice, span.from, span.to).has_edge(from, word, to))
+            }),
         }
     }
 
-    fn ask(&self, from: u32, word: u16, to: u32) -> Reply
-        ensures { result ≡ edge_reply self.now from word to }
+    /// The last position of the lattice and of the window.
+    fn last(&self) -> Both<u32>
+        ensures { result ≡ last_answers self.now }
     {
-        let has = self.lattice.has_edge(from, word, to);
-        let Some(span) = self.span else {
-            return Reply::Edge(has, None);
-        };
-        let window = Window::new(&self.lattice, span.from, span.to);
-        Reply::Edge(has, Some(window.has_edge(from, word, to)))
-    }
-
-    fn last(&self) -> Reply
-        ensures { result ≡ last_reply self.now }
-    {
-        let last = self.lattice.last_position();
-        let Some(span) = self.span else {
-            return Reply::Last(last, None);
-        };
-        let window = Window::new(&self.lattice, span.from, span.to);
-        Reply::Last(last, Some(window.last_position()))
+        Both {
+            lattice: self.lattice.last_position(),
+            window: self.span.map(|span| {
+                Window::new(&self.lattice, span.from, span.to).last_position()
+            }),
+        }
     }
 }

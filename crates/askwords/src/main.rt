@@ -15,12 +15,13 @@ fn main(rt: HostRuntime) -> io::Result<()> {
     let mut desk = Desk::new(rt.alloc());
     for line in rt.lines(rt.alloc()) {
         let line = line?;
-        match parse(line.as_str()) {
-            Some(command) => {
-                let reply = desk.reply(rt.alloc(), command)?;
-                println!(rt; "{line}: {reply}")?;
-            }
-            None => println!(rt; "{line}: not understood")?,
+        let Some(command) = parse(line.as_str()) else {
+            println!(rt; "{line}: not understood")?;
+            continue;
+        };
+        match desk.reply(rt.alloc(), command)? {
+            Ok(answer) => println!(rt; "{line}: {answer}")?,
+            Err(refusal) => println!(rt; "{line}: {refusal}")?,
         }
     }
     Ok(())

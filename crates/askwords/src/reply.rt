@@ -1,46 +1,66 @@
 //! What a line is answered.
+ghost use Rattle.std.specs.Prelude.{Some};
+ghost use Rattle.askwords.specs.Replies.{has_edge_text, both_text, answer_text};
+
 use std::fmt;
 use words::Refusal;
 
-/// The answer to a line.
+/// What the lattice answers, and the window if there is one.
 #[derive(Drop)]
-pub enum Reply {
+pub struct Both<T> {
+    pub lattice: T,
+    pub window: Option<T>,
+}
+
+impl<T: fmt::Display> fmt::Display for Both<T> {
+    ghost output = { both_text T.output };
+
+    fn fmt<W: fmt::Write>(&self, f: &mut fmt::Formatter<W>) -> fmt::Result {
+        write!(f, "lattice {}", self.lattice)?;
+        match &self.window {
+            Some(window) => write!(f, ", window {window}"),
+            None => Ok(()),
+        }
+    }
+}
+
+/// Whether there is an edge.
+#[derive(Clone, Copy)]
+pub struct HasEdge(pub bool);
+
+impl fmt::Display for HasEdge {
+    ghost output = { λ h. Some (has_edge_text h) };
+
+    fn fmt<W: fmt::Write>(&self, f: &mut fmt::Formatter<W>) -> fmt::Result {
+        f.write_str(if self.0 { "yes" } else { "no" })
+    }
+}
+
+/// What a line gets that is not refused.
+#[derive(Drop)]
+pub enum Answer {
     /// A lattice or a window was taken.
     Taken,
     /// An edge is held under this number.
     Number(usize),
-    /// It was refused.
-    Refused(Refusal),
-    /// Whether the lattice, and the window if there is one, has the edge.
-    Edge(bool, Option<bool>),
-    /// The last position of the lattice, and of the window if there is one.
-    Last(u32, Option<u32>),
+    /// Whether there is the edge.
+    Edge(Both<HasEdge>),
+    /// The last position.
+    Last(Both<u32>),
 }
 
-fn yes_or_no(answer: bool) -> &'static str {
-    if answer { "yes" } else { "no" }
-}
+impl fmt::Display for Answer {
+    ghost output = { answer_text };
 
-impl fmt::Display for Reply {
     fn fmt<W: fmt::Write>(&self, f: &mut fmt::Formatter<W>) -> fmt::Result {
         match self {
-            Reply::Taken => write!(f, "taken"),
-            Reply::Number(number) => write!(f, "number {number}"),
-            Reply::Refused(refusal) => {
-                let number = refusal.number();
-                write!(f, "refused {number}")
-            }
-            Reply::Edge(lattice, None) => write!(f, "lattice {}", yes_or_no(*lattice)),
-            Reply::Edge(lattice, Some(window)) => {
-                write!(
-                    f,
-                    "lattice {}, window {}",
-                    yes_or_no(*lattice),
-                    yes_or_no(*window)
-                )
-            }
-            Reply::Last(lattice, None) => write!(f, "lattice {lattice}"),
-            Reply::Last(lattice, Some(window)) => write!(f, "lattice {lattice}, window {window}"),
+            Answer::Taken => write!(f, "taken"),
+            Answer::Number(number) => write!(f, "number {number}"),
+            Answer::Edge(both) => write!(f, "{both}"),
+            Answer::Last(both) => write!(f, "{both}"),
         }
     }
 }
+
+/// The answer to a line, or why it was refused.
+pub type Reply = Result<Answer, Refusal>;

@@ -1,5 +1,5 @@
+pub mod Counts
 pub mod Dots
-pub mod Draws
 pub mod Runs
 pub mod Skips
 pub mod Listed

@@ -1,13 +1,15 @@
 -- A turn of the work.
-use Rattle.std.proofs.Common.{◌≡◌, ℕ, zero, suc, ◌+◌, ◌-◌, ◌<◌, ◌≤◌, Bool, true, false, cond, not, ◌&&◌, ltb, length, vec_items, sym, refl, ap, ◌∙◌, arith, ltb-true}
+use Rattle.std.proofs.Common.{◌≡◌, ℕ, zero, suc, ◌+◌, ◌-◌, ◌<◌, Bool, true, false, cond, sym, refl, ap, ◌∙◌, arith}
 use Rattle.format.specs.Parts.{Contents}
 use Rattle.words.specs.Meaning.{Meaning}
 use Rattle.steps.specs.Conclusions.{conclusions}
 use Rattle.steps.specs.Runs.{State, draw_all, Working, goes_on, process, worked}
 use Rattle.chart.specs.declared.store.Store.{Store}
-use Rattle.chart.specs.Drawn.{Grown, Drawn, state_of, held_in}
+use Rattle.grammar.specs.declared.grammar.Grammar.{Grammar}
+use Rattle.grammar.specs.Grammars.{contents_in}
+use Rattle.chart.specs.Drawn.{Grown, Drawn, contents_of, state_of, held_in, room_in}
 use Rattle.chart.specs.Works.{working}
-use Rattle.chart.proofs.Runs.{grown_then, held_long}
+use Rattle.chart.proofs.Runs.{grown_then, drawn_as}
 
 pub worked_stop : (c : Contents) (m : Meaning) (cap n : ℕ) (w : Working) → goes_on w ≡ false → worked c m cap n w ≡ w
 worked_stop c m cap zero w e = refl
@@ -19,26 +21,21 @@ worked_go c m cap n l w q e = ap (λ (k : ℕ). worked c m cap k w) q ∙ ap (λ
 abbrev with_processed : State → ℕ → Working
 with_processed s n = record { state = s; processed = n }
 
-processes_one : (c : Contents) (m : Meaning) (cap : ℕ) (s t : Store) (n : ℕ) → length (vec_items s.items) ≡ cap → Drawn s t (conclusions c m (held_in s) n)
+processes_one : (c : Contents) (m : Meaning) (cap : ℕ) (s t : Store) (n : ℕ) → room_in s ≡ cap → Drawn s t (conclusions c m (held_in s) n)
     → working t (n + 1) ≡ process c m cap (working s n)
 processes_one c m cap s t n e p = ap (λ (z : State). with_processed z (n + 1)) (p.state ∙ ap (λ (k : ℕ). draw_all k (state_of s) (conclusions c m (held_in s) n)) e)
 
-and_right : (a b : Bool) → a && b ≡ true → b ≡ true
-and_right true b e = e
-and_right false b e = let z : ◌≡◌ {A = ℕ} 0 1 = cc in absurd (omega arith)
-
 -- s at the start, t before the turn with n items processed, u after it
-pub work_on : (c : Contents) (m : Meaning) (s t u : Store) (a n all k : ℕ) → k < all → Grown s t
-    → worked c m (length (vec_items s.items)) all (working s a) ≡ worked c m (length (vec_items s.items)) (all - k) (working t n)
-    → goes_on (working t n) ≡ true → Drawn t u (conclusions c m (held_in t) n)
+pub work_on : (m : Meaning) (s t u : Store) (a n all k : ℕ) → k < all → Grown s t
+    → worked (contents_of s) m (room_in s) all (working s a) ≡ worked (contents_of s) m (room_in s) (all - k) (working t n)
+    → goes_on (working t n) ≡ true → Drawn t u (conclusions (contents_of t) m (held_in t) n)
     → Grown s u
-    × (worked c m (length (vec_items s.items)) all (working s a) ≡ worked c m (length (vec_items s.items)) (all - (k + 1)) (working u (n + 1)))
-    × (n + 1 ≤ u.held)
-work_on c m s t u a n all k h p e go d =
-    let cap = length (vec_items s.items) in
-    let q : all - k ≡ suc (all - (k + 1)) = omega arith in
-    let lt : n < t.held = omega (arith, held_long t, ltb-true n (length (held_in t)) (and_right (not t.full) (ltb n (length (held_in t))) go)) in (
+    × (worked (contents_of s) m (room_in s) all (working s a) ≡ worked (contents_of s) m (room_in s) (all - (k + 1)) (working u (n + 1)))
+work_on m s t u a n all k h p e go d =
+    let c = contents_of s in
+    let same : Drawn t u (conclusions c m (held_in t) n) = drawn_as t u _ _ (ap (λ (g : Grammar). conclusions (contents_in g) m (held_in t) n) p.grammar) d in
+    let cap = room_in s in
+    let q : all - k ≡ suc (all - (k + 1)) = omega arith in (
       grown_then s t u p d.grown,
-      e ∙ (worked_go c m cap (all - k) (all - (k + 1)) (working t n) q go ∙ ap (λ (w : Working). worked c m cap (all - (k + 1)) w) (sym (processes_one c m cap t u n p.room d))),
-      omega (arith, d.grown.grows),
+      e ∙ (worked_go c m cap (all - k) (all - (k + 1)) (working t n) q go ∙ ap (λ (w : Working). worked (contents_of s) m cap (all - (k + 1)) w) (sym (processes_one c m cap t u n p.list.room same))),
     )

@@ -1,7 +1,6 @@
 -- The life of a chart.
 use Rattle.std.specs.Prelude.{◌≡◌, ℕ, Bool, true, cond, ◌&&◌, List, [], length, drop, is_ok, Some, None, Ok, Err, vec_items, Option, Result, ◌==◌, nat_le, nat_lt}
 use Rattle.format.specs.Parts.{Contents}
-use Rattle.grammar.specs.Grammars.{contents_in}
 use Rattle.words.specs.Meaning.{Meaning}
 use Rattle.steps.specs.declared.item.Item.{Item}
 use Rattle.steps.specs.Items.{most_positions, item_at}
@@ -11,7 +10,7 @@ use Rattle.chart.specs.declared.refusal.Refusal.TheVariants as refusals
 use Rattle.chart.specs.declared.store.Store.{Store}
 use Rattle.chart.specs.declared.chart.Chart.{Chart}
 use Rattle.chart.specs.declared.chart.Closed.{Closed}
-use Rattle.chart.specs.Drawn.{Grown, held_in}
+use Rattle.chart.specs.Drawn.{Grown, contents_of, held_in, room_in}
 use Rattle.chart.specs.Works.{working}
 
 -- the greatest capacity
@@ -34,16 +33,16 @@ abbrev pub working_in : Chart → Working
 working_in x = working x.store x.processed
 
 abbrev pub working_closed : Closed → Working
-working_closed x = working x.store x.processed
+working_closed x = working_in x.chart
 
 abbrev pub memory_in : Store → List Item
-memory_in s = vec_items s.items
+memory_in s = vec_items s.list.memory
 
 -- a chart made over a memory: what it means, and that the memory past the held items is untouched
 pub record Made (c : Contents) (v : List Item) (n : ℕ) (x : Chart) : Type 0 where
   pub means : working_in x ≡ making c (length v) n
-  pub room : length (memory_in x.store) ≡ length v
-  pub rest : drop x.store.held (memory_in x.store) ≡ drop x.store.held v
+  pub room : room_in x.store ≡ length v
+  pub rest : drop x.store.list.held (memory_in x.store) ≡ drop x.store.list.held v
   pub last : x.last ≡ n
 
 -- why work is refused: on a full chart, then where the source's last position is not that of the making
@@ -52,8 +51,7 @@ work_refusal full last n = cond full (Some refusals.Full) (cond (n == last) None
 
 -- nothing of a chart has changed
 pub record Unchanged (x y : Chart) : Type 0 where
-  pub store : y.store.items ≡ x.store.items
-  pub held : y.store.held ≡ x.store.held
+  pub list : y.store.list ≡ x.store.list
   pub full : y.store.full ≡ x.store.full
   pub processed : y.processed ≡ x.processed
   pub last : y.last ≡ x.last
@@ -61,7 +59,7 @@ pub record Unchanged (x y : Chart) : Type 0 where
 -- Work processes at most the budget and answers items processed and items held; a refusal leaves the chart as it was.
 pub record HasWorked (m : Meaning) (budget : ℕ) (x y : Chart) (answer : ℕ × ℕ) : Type 0 where
   pub allowed : work_refusal x.store.full x.last m.last ≡ None
-  pub means : working_in y ≡ worked (contents_in x.grammar.now) m (length (memory_in x.store)) budget (working_in x)
+  pub means : working_in y ≡ worked (contents_of x.store) m (room_in x.store) budget (working_in x)
   pub processed : answer.0 ≡ y.processed
   pub held : answer.1 ≡ length (held_in y.store)
   pub grown : Grown x.store y.store

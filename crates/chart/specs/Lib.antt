@@ -1,4 +1,5 @@
 pub mod Drawn
+pub mod Lasts
 pub mod Early
 pub mod Works
 pub mod Refusals

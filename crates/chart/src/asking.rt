@@ -9,6 +9,7 @@ use format::spot::{Next, Spot};
 use grammar::grammar::Grammar;
 use steps::item::Item;
 
+// Each question takes a grammar and an item, and no struct of both: the two or three premises of a step are asked of one grammar.
 /// What comes after the item's dot. Only the first eight dots have a child after them.
 pub(crate) fn next(grammar: &Grammar, x: &Item) -> Next
     ensures is { result ≡ after (contents_in grammar.now) x.now }
@@ -21,10 +22,7 @@ pub(crate) fn next(grammar: &Grammar, x: &Item) -> Next
 pub(crate) fn finished(grammar: &Grammar, x: &Item) -> bool
     ensures { result ≡ finished (contents_in grammar.now) x.now }
 {
-    match next(grammar, x) {
-        Next::End => true,
-        Next::Bottom | Next::Child(_) => false,
-    }
+    next(grammar, x) == Next::End
 }
 
 /// The inner node or foot right after the item's dot.
@@ -48,11 +46,5 @@ pub(crate) fn starts_foot(grammar: &Grammar, x: &Item) -> bool
     let Spot::At(n) = x.spot else {
         return false;
     };
-    if x.dot != 0 || x.i != x.j {
-        return false;
-    }
-    match grammar.kind(x.tree, n) {
-        Kind::Foot(_) => true,
-        Kind::Inner(_) | Kind::Word(_) | Kind::Empty => false,
-    }
+    x.dot == 0 && x.i == x.j && matches!(grammar.kind(x.tree, n), Kind::Foot(_))
 }

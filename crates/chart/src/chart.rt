@@ -3,24 +3,19 @@ ghost use Rattle.std.specs.Prelude.{◌≡◌, ◌≤◌, false};
 ghost use Rattle.steps.specs.Items.{most_positions};
 
 use crate::store::Store;
-use grammar::grammar::Grammar;
 
 /// A chart over a grammar: its items, how many of them are processed, and the last position of its source.
 #[derive(Drop)]
 pub struct Chart<'g> {
-    pub(crate) grammar: &'g Grammar,
-    pub(crate) store: Store,
+    pub(crate) store: Store<'g>,
     pub(crate) processed: usize,
     pub(crate) last: u32,
-    ghost behind: { processed ≤ store.held },
+    ghost behind: { processed ≤ store.list.held },
     ghost short: { store.full ≡ false → last ≤ most_positions },
 }
 
 /// A chart that takes no more work. It still tells its verdict and shows its items, and it alone hands its memory back.
 #[derive(Drop)]
 pub struct Closed<'g> {
-    pub(crate) grammar: &'g Grammar,
-    pub(crate) store: Store,
-    pub(crate) processed: usize,
-    pub(crate) last: u32,
+    pub(crate) chart: Chart<'g>,
 }

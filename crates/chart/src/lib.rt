@@ -11,8 +11,6 @@ pub mod life;
 mod pairs;
 mod process;
 pub mod refusal;
-mod row;
-mod rows;
 mod singles;
 mod store;
 mod sweep;

@@ -1,108 +1,68 @@
-//! The steps with two premises, with the processed item in either place. A row that cannot suit is not swept.
-ghost use Rattle.std.specs.Prelude.{◌+◌, ◌<◌, take};
-ghost use Rattle.std.specs.Option.{option_to_list};
-ghost use Rattle.grammar.specs.Grammars.{contents_in};
-ghost use Rattle.steps.specs.Items.{item_at};
-ghost use Rattle.steps.specs.Orders.{each, pairs};
+//! The steps with two premises, with the processed item in either place. A place that cannot suit it is not swept.
+ghost use Rattle.std.specs.Prelude.{◌≡◌, ℕ, false, None};
+ghost use Rattle.steps.specs.declared.item.Item.{Item};
+ghost use Rattle.steps.specs.Orders.{PairStep};
 ghost use Rattle.steps.specs.Conclusions.{complete, foot_complete};
-ghost use Rattle.chart.specs.Drawn.{Drawn, held_in};
+ghost use Rattle.chart.specs.Drawn.{Drawn, contents_of, held_in};
+ghost use Rattle.chart.specs.Lasts.{of_two, pairs_with};
 
 use crate::asking::{finished, site, starts_foot};
-use crate::rows::{CompleteFirst, CompleteSecond, FootFirst, FootSecond, Premise};
-use crate::store::Store;
-use crate::sweep::sweep;
-use grammar::grammar::Grammar;
+use crate::concluding::{complete_foot, complete_node};
+use crate::store::{Premise, Store};
+use steps::item::Item;
 
-/// Complete with item `t` as the second premise: it has to be finished.
-fn complete_from(grammar: &Grammar, store: &mut Store, t: usize)
-    requires { t < store.old.held }
-    ensures { Drawn store.old store.new (each (λ a x. option_to_list (complete (contents_in grammar.now) a x t (item_at (held_in store.old) t))) 0 (take t (held_in store.old))) }
-{
-    let item = store.items[t];
-    if !finished(grammar, &item) {
-        return;
+/// In which places of a step with two premises an item may stand.
+// Two flags: an item may stand in either, both or neither, and no value goes with an answer.
+#[derive(Clone, Copy)]
+pub(crate) struct Places {
+    pub(crate) first: bool,
+    pub(crate) second: bool,
+}
+
+impl Store<'_> {
+    /// The step with `last` in the places where it may stand, and in the other place each held item up to it.
+    pub(crate) fn pair<F: Fn(Premise<'_>, Premise<'_>) -> Option<Item>>(
+        &mut self,
+        last: Premise<'_>,
+        places: Places,
+        step: F,
+    )
+        requires { F.IsAlwaysCallable step }
+        ensures { (f : PairStep) → ((p q : _) (r : _) → F.post step p q r → r ≡ of_two f p q)
+            → (places.first ≡ false → (k : ℕ) (x : Item) → f last.entry.number last.entry.item.now k x ≡ None)
+            → (places.second ≡ false → (k : ℕ) (x : Item) → f k x last.entry.number last.entry.item.now ≡ None)
+            → Drawn self.old self.new (pairs_with f (held_in self.old) last.entry) }
+    {
+        let through = last.number.saturating_add(1).min(self.list.len());
+        if places.second {
+            self.sweep(last.number, |first| step(first, last));
+        }
+        if places.first {
+            self.sweep(through, |second| step(last, second));
+        }
     }
-    sweep(
-        &CompleteFirst {
-            second: Premise { number: t, item },
-        },
-        grammar,
-        store,
-        t,
-    );
-}
 
-/// Complete with item `t` as the first premise: it has to be before a node.
-fn complete_past(grammar: &Grammar, store: &mut Store, t: usize)
-    requires { t < store.old.held }
-    ensures { Drawn store.old store.new (each (λ b y. option_to_list (complete (contents_in grammar.now) t (item_at (held_in store.old) t) b y)) 0 (take (t + 1) (held_in store.old))) }
-{
-    let item = store.items[t];
-    if site(grammar, &item).is_none() {
-        return;
+    /// Complete with `last` in either place: as the first premise it has to be before a node, as the second finished.
+    pub(crate) fn complete_pairs(&mut self, last: Premise<'_>)
+        ensures { Drawn self.old self.new (pairs_with (complete (contents_of self.old)) (held_in self.old) last.entry) }
+    {
+        let grammar = self.grammar;
+        let places = Places {
+            first: site(grammar, last.item).is_some(),
+            second: finished(grammar, last.item),
+        };
+        self.pair(last, places, |x, y| complete_node(grammar, x, y));
     }
-    sweep(
-        &CompleteSecond {
-            first: Premise { number: t, item },
-        },
-        grammar,
-        store,
-        t + 1,
-    );
-}
 
-/// Complete with item `t` in either place.
-pub(crate) fn complete_pairs(grammar: &Grammar, store: &mut Store, t: usize)
-    requires { t < store.old.held }
-    ensures { Drawn store.old store.new (pairs (complete (contents_in grammar.now)) (held_in store.old) t) }
-{
-    complete_from(grammar, store, t);
-    complete_past(grammar, store, t);
-}
-
-/// Foot complete with item `t` as the second premise: it has to be at the first dot of a foot.
-fn foot_from(grammar: &Grammar, store: &mut Store, t: usize)
-    requires { t < store.old.held }
-    ensures { Drawn store.old store.new (each (λ a x. option_to_list (foot_complete (contents_in grammar.now) a x t (item_at (held_in store.old) t))) 0 (take t (held_in store.old))) }
-{
-    let item = store.items[t];
-    if !starts_foot(grammar, &item) {
-        return;
+    /// Foot complete with `last` in either place: as the first premise it has to be finished, as the second at the first dot of a foot.
+    pub(crate) fn foot_pairs(&mut self, last: Premise<'_>)
+        ensures { Drawn self.old self.new (pairs_with (foot_complete (contents_of self.old)) (held_in self.old) last.entry) }
+    {
+        let grammar = self.grammar;
+        let places = Places {
+            first: finished(grammar, last.item),
+            second: starts_foot(grammar, last.item),
+        };
+        self.pair(last, places, |x, f| complete_foot(grammar, x, f));
     }
-    sweep(
-        &FootFirst {
-            second: Premise { number: t, item },
-        },
-        grammar,
-        store,
-        t,
-    );
-}
-
-/// Foot complete with item `t` as the first premise: it has to be finished.
-fn foot_past(grammar: &Grammar, store: &mut Store, t: usize)
-    requires { t < store.old.held }
-    ensures { Drawn store.old store.new (each (λ b y. option_to_list (foot_complete (contents_in grammar.now) t (item_at (held_in store.old) t) b y)) 0 (take (t + 1) (held_in store.old))) }
-{
-    let item = store.items[t];
-    if !finished(grammar, &item) {
-        return;
-    }
-    sweep(
-        &FootSecond {
-            first: Premise { number: t, item },
-        },
-        grammar,
-        store,
-        t + 1,
-    );
-}
-
-/// Foot complete with item `t` in either place.
-pub(crate) fn foot_pairs(grammar: &Grammar, store: &mut Store, t: usize)
-    requires { t < store.old.held }
-    ensures { Drawn store.old store.new (pairs (foot_complete (contents_in grammar.now)) (held_in store.old) t) }
-{
-    foot_from(grammar, store, t);
-    foot_past(grammar, store, t);
 }

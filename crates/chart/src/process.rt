@@ -1,61 +1,56 @@
 //! Processing items in order.
-ghost use Rattle.std.specs.Prelude.{◌≡◌, ◌<◌, ◌≤◌};
-ghost use Rattle.grammar.specs.Grammars.{contents_in};
-ghost use Rattle.steps.specs.Items.{most_positions};
+ghost use Rattle.std.specs.Prelude.{◌≡◌, ◌<◌};
 ghost use Rattle.steps.specs.Conclusions.{conclusions};
 ghost use Rattle.steps.specs.Runs.{goes_on};
-ghost use Rattle.chart.specs.Drawn.{Drawn, held_in};
-ghost use Rattle.chart.specs.Works.{working, Worked};
+ghost use Rattle.chart.specs.Drawn.{Drawn, contents_of, held_in};
+ghost use Rattle.chart.specs.Charts.{working_in};
+ghost use Rattle.chart.specs.Works.{Worked};
 
-use crate::adjoining::adjoin_triples;
-use crate::feet::predict_foot;
-use crate::pairs::{complete_pairs, foot_pairs};
-use crate::singles::{predict_adjoined, predict_node, scan_leaf};
-use crate::store::Store;
-use grammar::grammar::Grammar;
+use crate::chart::Chart;
+use crate::singles::Short;
+use crate::store::{Premise, Store};
 use words::Source;
 
-/// Draws all conclusions with item `t` as a premise and none above it, step by step.
-fn process_item<S: Source>(grammar: &Grammar, source: &S, store: &mut Store, t: usize)
-    requires { ((S.meaning source.now).last ≤ most_positions) × (t < store.old.held) }
-    ensures { Drawn store.old store.new (conclusions (contents_in grammar.now) (S.meaning source.now) (held_in store.old) t) }
-{
-    let item = store.items[t];
-    scan_leaf(grammar, source, store, t, &item);
-    predict_node(grammar, store, t, &item);
-    complete_pairs(grammar, store, t);
-    predict_adjoined(grammar, store, t, &item);
-    predict_foot(grammar, store, t, &item);
-    foot_pairs(grammar, store, t);
-    adjoin_triples(grammar, store, t);
-}
-
-/// Whether an item is left to process, and none was refused.
-pub(crate) fn goes_on(store: &Store, processed: usize) -> bool
-    ensures { result ≡ goes_on (working store.now processed) }
-{
-    !store.full && processed < store.held
-}
-
-/// Processes at most `budget` items from the item `processed` on, and answers how many are processed then.
-pub(crate) fn process_items<S: Source>(
-    grammar: &Grammar,
-    source: &S,
-    store: &mut Store,
-    processed: usize,
-    budget: u64,
-) -> usize
-    requires { ((S.meaning source.now).last ≤ most_positions) × (processed ≤ store.old.held) }
-    ensures work { Worked (contents_in grammar.now) (S.meaning source.now) store.old store.new processed result budget }
-    ensures behind { result ≤ store.new.held }
-{
-    let mut t = processed;
-    for _k in 0..budget {
-        if !goes_on(store, t) {
-            return t;
-        }
-        process_item(grammar, source, store, t);
-        t += 1;
+impl Store<'_> {
+    /// Draws all conclusions with the item of this number as a premise and none above it, step by step.
+    fn process_item<S: Source>(&mut self, short: &Short<'_, S>, number: usize)
+        requires { number < self.old.list.held }
+        ensures { Drawn self.old self.new (conclusions (contents_of self.old) (S.meaning short.now.source.now) (held_in self.old) number) }
+    {
+        let item = self.list.items()[number];
+        let last = Premise {
+            number,
+            item: &item,
+        };
+        self.scan_leaf(short, last);
+        self.predict_node(last);
+        self.complete_pairs(last);
+        self.predict_adjoined(last);
+        self.predict_foot(last);
+        self.foot_pairs(last);
+        self.adjoin_triples(last);
     }
-    t
+}
+
+impl Chart<'_> {
+    /// Whether an item is left to process, and none was refused.
+    pub(crate) fn goes_on(&self) -> bool
+        ensures { result ≡ goes_on (working_in self.now) }
+    {
+        !self.store.full && self.processed < self.store.list.len()
+    }
+
+    /// Processes at most `budget` items, in order.
+    pub(crate) fn process_items<S: Source>(&mut self, short: &Short<'_, S>, budget: u64)
+        ensures work { Worked (contents_of self.old.store) (S.meaning short.now.source.now) self.old.store self.new.store self.old.processed self.new.processed budget }
+        ensures last { self.new.last ≡ self.old.last }
+    {
+        for _ in 0..budget {
+            if !self.goes_on() {
+                return;
+            }
+            self.store.process_item(short, self.processed);
+            self.processed += 1;
+        }
+    }
 }

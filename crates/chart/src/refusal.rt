@@ -1,20 +1,23 @@
 //! What a chart refuses.
-ghost use Rattle.std.specs.Prelude.{◌≡◌};
-ghost use Rattle.chart.specs.Refusals.{refusal_number};
+ghost use Rattle.std.specs.Prelude.{◌≡◌, Some};
+ghost use Rattle.chart.specs.Refusals.{refusal_number, refusal_text};
+
+use std::error::Error;
+use std::fmt;
 
 /// Why a call was refused.
 #[derive(Clone, Copy, PartialEq, Eq, Debug)]
 pub enum Refusal {
     /// The capacity is 0 or above 60,000 (layer chart).
-    Capacity,
+    Capacity = 13,
     /// The source's last position is above 250 (layer chart).
-    SourceTooLong,
+    SourceTooLong = 14,
     /// Work on a full chart.
-    Full,
+    Full = 20,
     /// The source's last position is not that of the making.
-    OtherSource,
+    OtherSource = 21,
     /// No item with this number is held.
-    NoSuchItem,
+    NoSuchItem = 25,
 }
 
 impl Refusal {
@@ -22,12 +25,19 @@ impl Refusal {
     pub fn number(self) -> u8
         ensures { result ≡ refusal_number self }
     {
-        match self {
-            Refusal::Capacity => 13,
-            Refusal::SourceTooLong => 14,
-            Refusal::Full => 20,
-            Refusal::OtherSource => 21,
-            Refusal::NoSuchItem => 25,
-        }
+        self as u8
     }
 }
+
+/// The refusal by its number.
+// Written for each type that refuses: a Display for all types with a number cannot be, as the trait is the library's.
+impl fmt::Display for Refusal {
+    ghost output = { λ x. Some (refusal_text x) };
+
+    fn fmt<W: fmt::Write>(&self, f: &mut fmt::Formatter<W>) -> fmt::Result {
+        let number = self.number();
+        write!(f, "refused {number}")
+    }
+}
+
+impl Error for Refusal {}

@@ -1,120 +1,128 @@
 //! The steps with no premise or one.
-ghost use Rattle.std.specs.Prelude.{◌≡◌, ◌+◌, ◌<◌, ◌≤◌};
-ghost use Rattle.grammar.specs.Grammars.{contents_in};
+ghost use Rattle.std.specs.Prelude.{◌≡◌, ℕ, ◌<◌, ◌≤◌, Option};
+ghost use Rattle.std.specs.Option.{option_to_list};
+ghost use Rattle.steps.specs.declared.item.Item.{Item};
 ghost use Rattle.steps.specs.declared.item.Origin.TheVariants.{Scan};
-ghost use Rattle.steps.specs.Items.{fresh, moved, most_positions};
+ghost use Rattle.steps.specs.Items.{moved, most_positions};
+ghost use Rattle.steps.specs.Orders.{upto};
 ghost use Rattle.steps.specs.Conclusions.{starts, scan_word, scan, predict, adjoin_predict};
-ghost use Rattle.chart.specs.Drawn.{Drawn};
+ghost use Rattle.chart.specs.Drawn.{Drawn, contents_of};
 
 use crate::asking::{next, site};
-use crate::store::Store;
+use crate::store::{Premise, Store};
 use format::node::Kind;
 use format::spot::{Next, Spot};
-use grammar::grammar::Grammar;
-use steps::item::{Item, MISSING, Origin};
+use steps::item::{Item, Origin};
 use words::Source;
 
-/// An item at the first dot of a place.
-pub(crate) fn first_item(tree: u8, spot: Spot, position: u8, origin: Origin) -> Item
-    ensures { result ≡ fresh tree spot position origin }
-{
-    Item {
-        tree,
-        spot,
-        dot: 0,
-        i: position,
-        j: position,
-        p: MISSING,
-        q: MISSING,
-        origin,
-    }
-}
-
-/// Start: each tree that may start a derivation.
-pub(crate) fn start_trees(grammar: &Grammar, store: &mut Store)
-    ensures { Drawn store.old store.new (starts (contents_in grammar.now)) }
-{
-    for k in 0..grammar.trees().len() {
-        let tree = k as u8;
-        if !grammar.may_start(tree) {
-            continue;
-        }
-        store.draw(first_item(tree, Spot::Top, 0, Origin::Start));
-    }
+/// A source that is short enough for a chart: each of its positions fits an item.
+#[derive(Drop)]
+pub(crate) struct Short<'s, S: Source> {
+    pub(crate) source: &'s S,
+    ghost short: { (S.meaning source.now).last ≤ most_positions },
 }
 
 /// The item with its dot past a leaf that was scanned.
-fn scanned(x: &Item, position: u8, t: usize) -> Item
-    requires { x.now.dot < 8 }
-    ensures { result ≡ moved x.now position x.now.p x.now.q (Scan t) }
+fn scanned(x: Premise<'_>) -> Item
+    requires { x.item.now.dot < 8 }
+    ensures { result ≡ moved x.entry.item.now x.entry.item.now.j x.entry.item.now.p x.entry.item.now.q (Scan x.entry.number) }
 {
     Item {
-        dot: x.dot + 1,
-        j: position,
-        origin: Origin::Scan(t),
-        ..*x
+        dot: x.item.dot + 1,
+        origin: Origin::Scan(x.number),
+        ..*x.item
     }
 }
 
-/// Scan over each edge with the word.
-fn scan_edges<S: Source>(source: &S, store: &mut Store, t: usize, x: &Item, word: u16)
-    requires { ((S.meaning source.now).last ≤ most_positions) × (x.now.dot < 8) }
-    ensures { Drawn store.old store.new (scan_word (S.meaning source.now) t x.now word) }
-{
-    let positions = source.last_position() + 1;
-    for k in 0..positions {
-        if !source.has_edge(x.j as u32, word, k) {
-            continue;
+impl Store<'_> {
+    /// Draws what is concluded at each number below `n`, in rising order.
+    fn draw_each<F: Fn(u8) -> Option<Item>>(&mut self, n: u8, conclude: F)
+        requires { F.IsAlwaysCallable conclude }
+        ensures { (g : ℕ → Option Item) → ((k : ℕ) (r : _) → k < n → F.post conclude k r → r ≡ g k)
+            → Drawn self.old self.new (upto n (λ k. option_to_list (g k))) }
+    {
+        for k in 0..n {
+            let Some(item) = conclude(k) else {
+                continue;
+            };
+            self.draw(item);
         }
-        store.draw(scanned(x, k as u8, t));
     }
-}
 
-/// Scan: a leaf right after the dot.
-pub(crate) fn scan_leaf<S: Source>(
-    grammar: &Grammar,
-    source: &S,
-    store: &mut Store,
-    t: usize,
-    x: &Item,
-)
-    requires { (S.meaning source.now).last ≤ most_positions }
-    ensures { Drawn store.old store.new (scan (contents_in grammar.now) (S.meaning source.now) t x.now) }
-{
-    let Next::Child(n) = next(grammar, x) else {
-        return;
-    };
-    match grammar.kind(x.tree, n) {
-        Kind::Word(word) => scan_edges(source, store, t, x, word),
-        Kind::Empty => store.draw(scanned(x, x.j, t)),
-        Kind::Inner(_) | Kind::Foot(_) => {}
+    /// Start: each tree that may start a derivation.
+    pub(crate) fn start_trees(&mut self)
+        ensures { Drawn self.old self.new (starts (contents_of self.old)) }
+    {
+        let grammar = self.grammar;
+        self.draw_each(grammar.tree_count(), |tree| {
+            grammar
+                .may_start(tree)
+                .then(|| Item::first(tree, Spot::Top, 0, Origin::Start))
+        });
     }
-}
 
-/// Predict: the node after the dot, where it may stay as it is.
-pub(crate) fn predict_node(grammar: &Grammar, store: &mut Store, t: usize, x: &Item)
-    ensures { Drawn store.old store.new (predict (contents_in grammar.now) t x.now) }
-{
-    let Some(n) = site(grammar, x) else {
-        return;
-    };
-    if grammar.may_stay(x.tree, n) {
-        store.draw(first_item(x.tree, Spot::At(n), x.j, Origin::Predict(t)));
+    /// Scan over each edge with the word.
+    fn scan_edges<S: Source>(&mut self, short: &Short<'_, S>, x: Premise<'_>, word: u16)
+        requires { x.item.now.dot < 8 }
+        ensures { Drawn self.old self.new (scan_word (S.meaning short.now.source.now) x.entry.number x.entry.item.now word) }
+    {
+        let source = short.source;
+        let positions = source.last_position() + 1;
+        let past = scanned(x);
+        self.draw_each(positions as u8, |k| {
+            source
+                .has_edge(u32::from(x.item.j), word, u32::from(k))
+                .then(|| Item { j: k, ..past })
+        });
     }
-}
 
-/// Adjoin predict: each tree that the node after the dot lists.
-pub(crate) fn predict_adjoined(grammar: &Grammar, store: &mut Store, t: usize, x: &Item)
-    ensures { Drawn store.old store.new (adjoin_predict (contents_in grammar.now) t x.now) }
-{
-    let Some(n) = site(grammar, x) else {
-        return;
-    };
-    for k in 0..grammar.trees().len() {
-        let tree = k as u8;
-        if !grammar.lists(x.tree, n, tree) {
-            continue;
+    /// Scan: a leaf right after the dot.
+    pub(crate) fn scan_leaf<S: Source>(&mut self, short: &Short<'_, S>, x: Premise<'_>)
+        ensures { Drawn self.old self.new (scan (contents_of self.old) (S.meaning short.now.source.now) x.entry.number x.entry.item.now) }
+    {
+        let grammar = self.grammar;
+        let Next::Child(n) = next(grammar, x.item) else {
+            return;
+        };
+        match grammar.kind(x.item.tree, n) {
+            Kind::Word(word) => self.scan_edges(short, x, word),
+            Kind::Empty => self.draw(scanned(x)),
+            Kind::Inner(_) | Kind::Foot(_) => {}
         }
-        store.draw(first_item(tree, Spot::Top, x.j, Origin::AdjoinPredict(t)));
+    }
+
+    /// Predict: the node after the dot, where it may stay as it is.
+    pub(crate) fn predict_node(&mut self, x: Premise<'_>)
+        ensures { Drawn self.old self.new (predict (contents_of self.old) x.entry.number x.entry.item.now) }
+    {
+        let Some(n) = site(self.grammar, x.item) else {
+            return;
+        };
+        if self.grammar.may_stay(x.item.tree, n) {
+            self.draw(Item::first(
+                x.item.tree,
+                Spot::At(n),
+                x.item.j,
+                Origin::Predict(x.number),
+            ));
+        }
+    }
+
+    /// Adjoin predict: each tree that the node after the dot lists.
+    pub(crate) fn predict_adjoined(&mut self, x: Premise<'_>)
+        ensures { Drawn self.old self.new (adjoin_predict (contents_of self.old) x.entry.number x.entry.item.now) }
+    {
+        let grammar = self.grammar;
+        let Some(n) = site(grammar, x.item) else {
+            return;
+        };
+        self.draw_each(grammar.tree_count(), |tree| {
+            grammar.lists(x.item.tree, n, tree).then(|| Item::first(
+                tree,
+                Spot::Top,
+                x.item.j,
+                Origin::AdjoinPredict(x.number),
+            ))
+        });
     }
 }

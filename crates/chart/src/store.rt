@@ -1,13 +1,20 @@
 //! The items of a chart in memory.
-ghost use Rattle.std.specs.Prelude.{◌≤◌, vec_len};
-
+use distinct::DistinctList;
+use grammar::grammar::Grammar;
 use steps::item::Item;
 
-/// The first `held` items of the memory are the chart's; `full` says that a new item once found no room.
+/// The items that are drawn over a grammar. `full` says that a new item once found no room, or that `judge` refused what the chart was to be made of.
 #[derive(Drop)]
-pub struct Store {
-    pub(crate) items: Vec<Item>,
-    pub(crate) held: usize,
+pub struct Store<'g> {
+    pub(crate) grammar: &'g Grammar,
+    pub(crate) list: DistinctList<Item>,
+    // A flag: a full store keeps its items and still shows them, so there is no value that only one of two cases has.
     pub(crate) full: bool,
-    ghost room: { held ≤ vec_len items },
+}
+
+/// A premise of a step: an item and its number.
+#[derive(Clone, Copy)]
+pub(crate) struct Premise<'a> {
+    pub(crate) number: usize,
+    pub(crate) item: &'a Item,
 }

@@ -2,15 +2,12 @@
 ghost use Rattle.std.specs.Prelude.{◌≡◌};
 ghost use Rattle.grammar.specs.Grammars.{contents_in};
 ghost use Rattle.steps.specs.Verdicts.{says_yes, yes_in, verdict};
-ghost use Rattle.chart.specs.Drawn.{held_in};
-ghost use Rattle.chart.specs.Works.{working};
+ghost use Rattle.chart.specs.Drawn.{contents_of, held_in};
 ghost use Rattle.chart.specs.Charts.{working_in, working_closed, shown};
 
 use crate::chart::{Chart, Closed};
 use crate::concluding::is_whole;
-use crate::process::goes_on;
 use crate::refusal::Refusal;
-use crate::store::Store;
 use grammar::grammar::Grammar;
 use steps::item::Item;
 use steps::verdict::Verdict;
@@ -19,96 +16,81 @@ use steps::verdict::Verdict;
 fn is_yes(grammar: &Grammar, last: u32, x: &Item) -> bool
     ensures { result ≡ says_yes (contents_in grammar.now) last x.now }
 {
-    grammar.may_start(x.tree) && is_whole(x) && x.i == 0 && x.j as u32 == last
+    grammar.may_start(x.tree) && is_whole(x) && x.i == 0 && u32::from(x.j) == last
 }
 
 /// Whether some item says yes.
 fn any_yes(grammar: &Grammar, last: u32, items: &[Item]) -> bool
     ensures { result ≡ yes_in (contents_in grammar.now) last items.now }
 {
-    for x in items {
-        if is_yes(grammar, last, x) {
-            return true;
-        }
-    }
-    false
-}
-
-/// The verdict of a store with so many items processed.
-fn verdict_of(grammar: &Grammar, store: &Store, processed: usize, last: u32) -> Verdict
-    ensures { result ≡ verdict (contents_in grammar.now) last (working store.now processed) }
-{
-    if any_yes(grammar, last, &store.items.as_slice()[0..store.held]) {
-        return Verdict::Yes;
-    }
-    if store.full {
-        return Verdict::Full;
-    }
-    if goes_on(store, processed) {
-        return Verdict::Open;
-    }
-    Verdict::No
-}
-
-/// One item of a store by its number.
-fn item_of(store: &Store, number: usize) -> Result<Item, Refusal>
-    ensures { result ≡ shown (held_in store.now) number }
-{
-    if number >= store.held {
-        return Err(Refusal::NoSuchItem);
-    }
-    Ok(store.items[number])
+    items.iter().any(|x| is_yes(grammar, last, x))
 }
 
 impl Chart<'_> {
+    /// The held items, in the order of their numbers.
+    pub fn items(&self) -> &[Item]
+        ensures { result.now ≡ held_in self.now.store }
+    {
+        self.store.list.items()
+    }
+
     /// Yes if an item is held that is finished at the top of a tree that may start a derivation, from 0 to the last position; else no at rest, full when full, open otherwise.
     pub fn verdict(&self) -> Verdict
-        ensures { result ≡ verdict (contents_in self.now.grammar.now) self.now.last (working_in self.now) }
+        ensures { result ≡ verdict (contents_of self.now.store) self.now.last (working_in self.now) }
     {
-        verdict_of(self.grammar, &self.store, self.processed, self.last)
+        if any_yes(self.store.grammar, self.last, self.items()) {
+            return Verdict::Yes;
+        }
+        if self.store.full {
+            return Verdict::Full;
+        }
+        if self.goes_on() {
+            return Verdict::Open;
+        }
+        Verdict::No
     }
 
     /// One item by its number; refused past the held items.
     pub fn item(&self, number: usize) -> Result<Item, Refusal>
         ensures { result ≡ shown (held_in self.now.store) number }
     {
-        item_of(&self.store, number)
+        self.items().get(number).copied().ok_or(Refusal::NoSuchItem)
     }
 }
 
 impl Closed<'_> {
     /// The verdict, as the chart had it when it was closed.
     pub fn verdict(&self) -> Verdict
-        ensures { result ≡ verdict (contents_in self.now.grammar.now) self.now.last (working_closed self.now) }
+        ensures { result ≡ verdict (contents_of self.now.chart.store) self.now.chart.last (working_closed self.now) }
     {
-        verdict_of(self.grammar, &self.store, self.processed, self.last)
+        self.chart.verdict()
     }
 
     /// One item by its number; refused past the held items.
     pub fn item(&self, number: usize) -> Result<Item, Refusal>
-        ensures { result ≡ shown (held_in self.now.store) number }
+        ensures { result ≡ shown (held_in self.now.chart.store) number }
     {
-        item_of(&self.store, number)
+        self.chart.item(number)
     }
 
     /// The held items, in the order of their numbers.
     pub fn items(&self) -> &[Item]
         ensures { result.now ≡ (working_closed self.now).state.items }
     {
-        &self.store.items.as_slice()[0..self.store.held]
+        self.chart.items()
     }
 
     /// The grammar that the chart was made over.
     pub fn grammar(&self) -> &Grammar
-        ensures { result.now ≡ self.now.grammar.now }
+        ensures { result.now ≡ self.now.chart.store.grammar.now }
     {
-        self.grammar
+        self.chart.store.grammar
     }
 
     /// The last position of the chart's source.
     pub fn last_position(&self) -> u32
-        ensures { result ≡ self.now.last }
+        ensures { result ≡ self.now.chart.last }
     {
-        self.last
+        self.chart.last
     }
 }

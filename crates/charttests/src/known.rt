@@ -30,10 +30,7 @@ pub(crate) const MARK: Item = Item {
 
 /// The grammar that the bytes are.
 pub(crate) fn read(heap: Global, bytes: &[u8]) -> Result<Grammar, Fail> {
-    match Grammar::read(heap, bytes) {
-        Ok(grammar) => Ok(grammar),
-        Err(_) => Err(Fail::new("no grammar")),
-    }
+    Ok(Grammar::read(heap, bytes)?)
 }
 
 /// Memory with room for so many items.
@@ -42,11 +39,22 @@ pub(crate) fn memory(heap: Global, capacity: usize) -> Result<Vec<Item>, AllocEr
 }
 
 /// What a chart tells when it has been worked.
-#[derive(Clone, Copy)]
+#[derive(Clone, Copy, PartialEq, Eq, Debug)]
 pub(crate) struct Told {
     pub(crate) verdict: Verdict,
     pub(crate) processed: usize,
     pub(crate) held: usize,
+}
+
+impl Told {
+    /// What a chart with this verdict and these counts tells.
+    pub(crate) fn new(verdict: Verdict, processed: usize, held: usize) -> Told {
+        Told {
+            verdict,
+            processed,
+            held,
+        }
+    }
 }
 
 /// What the chart of a row of words, with room for so many items, tells when all its work is done at once.
@@ -59,27 +67,12 @@ pub(crate) fn worked(
     let grammar = read(heap, bytes)?;
     let row = Row::new(words);
     let mut chart = Chart::make(&grammar, memory(heap, capacity)?, &row);
-    match chart.work(u64::MAX, &row) {
-        Ok((processed, held)) => Ok(Told {
-            verdict: chart.verdict(),
-            processed,
-            held,
-        }),
-        Err(_) => Err(Fail::new("no work")),
-    }
-}
-
-/// Checks the verdict and the counts.
-pub(crate) fn check_told(
-    rt: &impl Abort,
-    told: Told,
-    verdict: Verdict,
-    processed: usize,
-    held: usize,
-) {
-    assert_eq!(rt; told.verdict, verdict);
-    assert_eq!(rt; told.processed, processed);
-    assert_eq!(rt; told.held, held);
+    let (processed, held) = chart.work(u64::MAX, &row)?;
+    Ok(Told {
+        verdict: chart.verdict(),
+        processed,
+        held,
+    })
 }
 
 /// Checks that two items agree, origins too.

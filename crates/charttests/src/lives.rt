@@ -20,15 +20,17 @@ fn check_portions(rt: &(impl Abort + AllocGlobal), portion: u64) -> Result<(), F
     }
     assert_eq!(rt; parts.work(portion, &row)?, counts);
     assert_eq!(rt; parts.verdict(), whole.verdict());
-    check_items(rt, &whole, &parts, counts.1)
+    assert_eq!(rt; whole.items().len(), counts.1);
+    check_items(rt, &whole, &parts);
+    Ok(())
 }
 
-/// Checks that the first items of two charts agree.
-fn check_items(rt: &impl Abort, whole: &Chart, parts: &Chart, held: usize) -> Result<(), Fail> {
-    for number in 0..held {
-        check_item(rt, &whole.item(number)?, &parts.item(number)?);
+/// Checks that the items of two charts agree.
+fn check_items(rt: &impl Abort, whole: &Chart, parts: &Chart) {
+    assert_eq!(rt; whole.items().len(), parts.items().len());
+    for (a, b) in whole.items().iter().zip(parts.items()) {
+        check_item(rt, a, b);
     }
-    Ok(())
 }
 
 #[test]
@@ -54,10 +56,7 @@ fn a_chart_is_open_until_it_rests(rt: HostRuntime) -> Result<(), Fail> {
 /// Checks that the memory begins with the chart's items, and goes on as it was before the making.
 fn check_memory(rt: &impl Abort, memory: &[Item], chart: &Chart) {
     for (number, item) in memory.iter().enumerate() {
-        match chart.item(number) {
-            Ok(held) => check_item(rt, item, &held),
-            Err(_) => check_item(rt, item, &MARK),
-        }
+        check_item(rt, item, &chart.item(number).unwrap_or(MARK));
     }
 }
 

@@ -6,17 +6,11 @@ use std::test::Fail;
 use steps::verdict::Verdict;
 use words::{Edge, Lattice, Row, Window};
 
-const NO_EDGE: Edge = Edge {
-    from: 0,
-    word: 0,
-    to: 0,
-};
-
 #[test]
 fn a_chart_takes_every_kind_of_source(rt: HostRuntime) -> Result<(), Fail> {
     let grammar = read(rt.alloc(), &KNOWN)?;
     let row = Row::new(&[2, 1]);
-    let mut lattice = Lattice::new(vec![in rt.alloc(); NO_EDGE; 4]?, 2);
+    let mut lattice = Lattice::new(vec![in rt.alloc(); Edge::default(); 4]?, 2);
     let _ = lattice.add_edge(0, 2, 1);
     let _ = lattice.add_edge(1, 1, 2);
     let longer = Row::new(&[1, 2, 1, 2]);

@@ -14,14 +14,6 @@ has_first s k (y ∷ ys) x = pick (s y x) (has s ys x) (first_same s (k + 1) ys 
     pick true h o e = refl
     pick false h o e = e
 
-pub has_append : {R : Type 0} (s : R → R → Bool) (xs ys : List R) (x : R) → has s (xs ++ ys) x ≡ (has s xs x || has s ys x)
-has_append s [] ys x = refl
-has_append s (y ∷ xs) ys x = join (s y x) (has s xs x) (has s ys x) (has s (xs ++ ys) x) (has_append s xs ys x)
-  where
-    join : (b h t u : Bool) → u ≡ (h || t) → (b || u) ≡ ((b || h) || t)
-    join true h t u e = refl
-    join false h t u e = e
-
 -- what has x has all that is the same as x
 pub has_through : {R : Type 0} (s : R → R → Bool)
     → ((x y z : R) → s x y ≡ true → s y z ≡ true → s x z ≡ true)

@@ -1,24 +1,24 @@
 -- The law over whole runs, from what each offer keeps.
-use Rattle.std.proofs.Common.{◌≡◌, ℕ, ◌<◌, ◌≤◌, Bool, true, false, cond, ltb, List, [], ◌∷◌, ◌++◌, length, get_or, take, is_some, Some, None, Option, sym, refl, ap, ◌∙◌, subst, ⊎_elim, arith}
+use Rattle.std.proofs.Common.{◌≡◌, ℕ, ◌<◌, ◌≤◌, Bool, true, false, cond, ltb, List, [], ◌∷◌, ◌++◌, length, get_or, take, is_some, Some, None, Ok, Option, sym, refl, ap, ◌∙◌, subst, ⊎_elim, arith}
 use Rattle.std.proofs.lemmas.List.{length-take, length-take-le, take_all, get_or-take, get_or_at}
-use Rattle.std.proofs.lemmas.Bool.{both_ways, cases_Bool, cases_order, cond-false, le-ltb, ltb-false}
-use Rattle.distinct.specs.declared.Added.TheVariants.{New, NoRoom}
-use Rattle.distinct.specs.Adding.{first_same, answer_at}
+use Rattle.std.proofs.lemmas.Bool.{both_ways, false_from_ne_true, cases_order, cond-false, le-ltb, ltb-false}
+use Rattle.distinct.specs.declared.Added.TheVariants.{New}
+use Rattle.distinct.specs.Adding.{first_same, no_room, answer_at}
 use Rattle.distinct.specs.Runs.{held_in, run, begun, has, first_offers, RunsAreLawful}
 use Rattle.distinct.proofs.Classes.{has_first, Apart, apart_take, first_append}
 use Rattle.distinct.proofs.Offers.{answered, chosen, stored}
 
-no_room_says : (p : Option ℕ) (n cap : ℕ) → answer_at p n cap ≡ NoRoom → (is_some p ≡ false) × (cap ≤ n)
+no_room_says : (p : Option ℕ) (n cap : ℕ) → answer_at p n cap ≡ no_room → (is_some p ≡ false) × (cap ≤ n)
 no_room_says (Some k) n cap e = let z : ◌≡◌ {A = ℕ} 0 1 = cc in absurd (omega arith)
 no_room_says None n cap e = (refl, full (ltb n cap) refl e)
   where
-    full : (b : Bool) → b ≡ ltb n cap → cond b (New n) NoRoom ≡ NoRoom → cap ≤ n
+    full : (b : Bool) → b ≡ ltb n cap → cond b (Ok (New n)) no_room ≡ no_room → cap ≤ n
     full true u e = let z : ◌≡◌ {A = ℕ} 0 1 = cc in absurd (omega arith)
     full false u e = ltb-false n cap (sym u)
 
-no_room_from : (p : Option ℕ) (n cap : ℕ) → is_some p ≡ false → cap ≤ n → answer_at p n cap ≡ NoRoom
+no_room_from : (p : Option ℕ) (n cap : ℕ) → is_some p ≡ false → cap ≤ n → answer_at p n cap ≡ no_room
 no_room_from (Some k) n cap e h = let z : ◌≡◌ {A = ℕ} 0 1 = cc in absurd (omega arith)
-no_room_from None n cap e h = cond-false (ltb n cap) (New n) NoRoom (le-ltb n cap h)
+no_room_from None n cap e h = cond-false (ltb n cap) (Ok (New n)) no_room (le-ltb n cap h)
 
 module _ {R : Type 0} (s : R → R → Bool)
     (sy : (x y : R) → s x y ≡ true → s y x ≡ true)
@@ -28,8 +28,7 @@ module _ {R : Type 0} (s : R → R → Bool)
   both xs a d i j il jl ne =
       ⊎_elim (λ e. absurd (ne e))
       (⊎_elim (λ l. a d i j l jl)
-      (λ l. ⊎_elim (λ t. absurd (both_ways _ (a d j i l il) (sy (get_or xs i d) (get_or xs j d) t))) (λ f. f)
-      (cases_Bool (s (get_or xs i d) (get_or xs j d)))))
+      (λ l. false_from_ne_true (s (get_or xs i d) (get_or xs j d)) (λ t. both_ways _ (a d j i l il) (sy (get_or xs i d) (get_or xs j d) t))))
       (cases_order i j)
 
   -- a first offer where there is room, at its number

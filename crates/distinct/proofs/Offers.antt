@@ -1,12 +1,14 @@
 -- One offer after another keeps what a run promises.
-use Rattle.std.proofs.Common.{◌≡◌, ℕ, ◌+◌, ◌<◌, ◌≤◌, Bool, true, false, cond, ◌||◌, ltb, leb, List, [], ◌∷◌, ◌++◌, length, take, drop, set, is_some, Some, None, Option, sym, refl, ap, ◌∙◌, subst, arith}
+use Rattle.std.proofs.Common.{◌≡◌, ℕ, ◌+◌, ◌<◌, ◌≤◌, Bool, true, false, cond, ◌||◌, ltb, leb, List, [], ◌∷◌, ◌++◌, length, take, drop, set, is_some, Some, None, Ok, Option, Result, sym, refl, ap, ◌∙◌, subst, arith}
 use Rattle.std.proofs.lemmas.List.{append_assoc, append-nil, length-set, length_push, length-take, length-take-le, take_all, take-append-le, take-append-drop, take_more_set, drop-set-lt, drop-drop}
+use Rattle.std.proofs.lemmas.List.Folds.{list_any-append}
 use Rattle.std.proofs.lemmas.Bool.{or_left, both_ways, cond-true, le-leb, ltb-true, ltb-false}
 use Rattle.distinct.specs.declared.Added.{Added}
-use Rattle.distinct.specs.declared.Added.TheVariants.{Held, New, NoRoom}
-use Rattle.distinct.specs.Adding.{first_same, answer_at, answer, memory_after}
+use Rattle.distinct.specs.declared.Added.TheVariants.{Held, New}
+use Rattle.distinct.specs.declared.NoRoom.{NoRoom}
+use Rattle.distinct.specs.Adding.{first_same, no_room, answer_at, answer, memory_after}
 use Rattle.distinct.specs.Runs.{Listed, held_in, count_after, after_offer, run, begun, has, first_offers}
-use Rattle.distinct.proofs.Classes.{has_first, has_append, has_through, Apart, apart_push}
+use Rattle.distinct.proofs.Classes.{has_first, has_through, Apart, apart_push}
 
 -- the list l lies in the memory m, and holds as many of the records F as there is memory for
 pub record Stored {R : Type 0} (m F : List R) (l : Listed R) : Type 0 where
@@ -21,7 +23,7 @@ pub record Chosen {R : Type 0} (s : R → R → Bool) (before F : List R) : Type
   pub apart : Apart s F
 
 -- the list after an answer
-abbrev after : {R : Type 0} → Added → Listed R → R → Listed R
+abbrev after : {R : Type 0} → Result Added NoRoom → Listed R → R → Listed R
 after a l x = record { memory = memory_after a l.memory x; count = count_after a l.count }
 
 -- where the held records lie in the memory, the answer goes by them alone
@@ -33,13 +35,13 @@ answered s l x h = cond-true (leb l.count (length l.memory)) _ _ (le-leb l.count
 has_take : {R : Type 0} (s : R → R → Bool) (n : ℕ) (F : List R) (x : R) → has s (take n F) x ≡ true → has s F x ≡ true
 has_take s n F x h =
     ap (λ z. has s z x) (sym (take-append-drop n F))
-    ∙ (has_append s (take n F) (drop n F) x ∙ or_left (has s (take n F) x) (has s (drop n F) x) h)
+    ∙ (list_any-append (λ y. s y x) (take n F) (drop n F) ∙ or_left (has s (take n F) x) (has s (drop n F) x) h)
 
 module _ {R : Type 0} (s : R → R → Bool) (tr : (x y z : R) → s x y ≡ true → s y z ≡ true → s x z ≡ true) where
   chosen_step : (before F : List R) (x : R) (c : Bool) → c ≡ has s before x → Chosen s before F
       → Chosen s (before ++ x ∷ []) (cond c F (F ++ x ∷ []))
   chosen_step before F x true e h = record {
-    classes = λ y. has_append s before (x ∷ []) y ∙ (ap (λ z. z || (s x y || false)) (h.classes y)
+    classes = λ y. list_any-append (λ z. s z y) before (x ∷ []) ∙ (ap (λ z. z || (s x y || false)) (h.classes y)
         ∙ absorb (has s F y) (s x y) (λ q. has_through s tr F x y q (sym (e ∙ h.classes x))));
     apart = h.apart;
   }
@@ -49,13 +51,13 @@ module _ {R : Type 0} (s : R → R → Bool) (tr : (x y z : R) → s x y ≡ tru
       absorb false true f = sym (f refl)
       absorb false false f = refl
   chosen_step before F x false e h = record {
-    classes = λ y. has_append s before (x ∷ []) y ∙ (ap (λ z. z || (s x y || false)) (h.classes y) ∙ sym (has_append s F (x ∷ []) y));
+    classes = λ y. list_any-append (λ z. s z y) before (x ∷ []) ∙ (ap (λ z. z || (s x y || false)) (h.classes y) ∙ sym (list_any-append (λ z. s z y) F (x ∷ [])));
     apart = apart_push s F x h.apart (sym (e ∙ h.classes x));
   }
 
   stored_at : (m F : List R) (l : Listed R) (x : R) (p : Option ℕ) (b c : Bool)
       → is_some p ≡ has s (held_in l) x → b ≡ ltb (length (held_in l)) (length l.memory) → c ≡ has s F x
-      → Stored m F l → Stored m (cond c F (F ++ x ∷ [])) (after (elim p [ Some k ↦ Held k | None ↦ cond b (New (length (held_in l))) NoRoom ]) l x)
+      → Stored m F l → Stored m (cond c F (F ++ x ∷ [])) (after (elim p [ Some k ↦ Ok (Held k) | None ↦ cond b (Ok (New (length (held_in l)))) no_room ]) l x)
   stored_at m F l x (Some k) b true e u v h = h
   stored_at m F l x (Some k) b false e u v h =
       absurd (both_ways (has s F x) (sym v) (has_take s (length m) F x (ap (λ z. has s z x) (sym h.holds) ∙ sym e)))
@@ -72,7 +74,7 @@ module _ {R : Type 0} (s : R → R → Bool) (tr : (x y z : R) → s x y ≡ tru
       all_held = let t = length-take (length m) F in let n = ap length h.holds in let o = h.long in
           h.holds ∙ take_all (length m) F (omega (arith, lt))
 
-      new : (c : Bool) → c ≡ has s F x → Stored m (cond c F (F ++ x ∷ [])) (after (New (length (held_in l))) l x)
+      new : (c : Bool) → c ≡ has s F x → Stored m (cond c F (F ++ x ∷ [])) (after (Ok (New (length (held_in l)))) l x)
       new true v = absurd (both_ways (has s F x) (ap (λ z. has s z x) (sym all_held) ∙ sym e) (sym v))
       new false v =
           let w = h.within in
@@ -110,7 +112,7 @@ module _ {R : Type 0} (s : R → R → Bool) (tr : (x y z : R) → s x y ≡ tru
       (sym (has_first s 0 (held_in l) x)) refl (ch.classes x) st)
     where
       same_answer : (p : Option ℕ)
-          → elim p [ Some k ↦ Held k | None ↦ cond (ltb (length (held_in l)) (length l.memory)) (New (length (held_in l))) NoRoom ]
+          → elim p [ Some k ↦ Ok (Held k) | None ↦ cond (ltb (length (held_in l)) (length l.memory)) (Ok (New (length (held_in l)))) no_room ]
           ≡ answer_at p (length (held_in l)) (length l.memory)
       same_answer (Some k) = refl
       same_answer None = refl

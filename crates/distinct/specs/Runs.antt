@@ -1,8 +1,10 @@
 -- Whole runs of a distinct list: it begins empty, and is changed only by adding.
-use Rattle.std.specs.Prelude.{◌≡◌, ℕ, ◌+◌, ◌<◌, ◌≤◌, Bool, false, cond, ◌||◌, List, [], ◌∷◌, ◌++◌, length, take, drop, ◌≢◌, slice_index_or}
+use Rattle.std.specs.Prelude.{◌≡◌, ℕ, ◌+◌, ◌<◌, ◌≤◌, Bool, false, cond, List, [], ◌∷◌, ◌++◌, length, take, drop, ◌≢◌, slice_index_or, Ok, Err, Result}
+use Rattle.std.specs.List.{list_any}
 use Rattle.distinct.specs.declared.Added.{Added}
-use Rattle.distinct.specs.declared.Added.TheVariants.{Held, New, NoRoom}
-use Rattle.distinct.specs.Adding.{answer, memory_after}
+use Rattle.distinct.specs.declared.Added.TheVariants.{Held, New}
+use Rattle.distinct.specs.declared.NoRoom.{NoRoom}
+use Rattle.distinct.specs.Adding.{answer, memory_after, no_room}
 
 -- a distinct list: its memory, and how many records at its front are held
 pub record Listed (R : Type 0) : Type 0 where
@@ -14,10 +16,10 @@ abbrev pub held_in : {R : Type 0} → Listed R → List R
 held_in l = take l.count l.memory
 
 -- the number of held records after an answer
-abbrev pub count_after : Added → ℕ → ℕ
-count_after (Held k) n = n
-count_after (New k) n = n + 1
-count_after NoRoom n = n
+abbrev pub count_after : Result Added NoRoom → ℕ → ℕ
+count_after (Ok (Held k)) n = n
+count_after (Ok (New k)) n = n + 1
+count_after (Err e) n = n
 
 -- the list after one record was offered to `add`
 abbrev pub after_offer : {R : Type 0} → (R → R → Bool) → Listed R → R → Listed R
@@ -37,8 +39,7 @@ begun m = record { memory = m; count = 0 }
 
 -- whether some record of a list is the same as x
 abbrev pub has : {R : Type 0} → (R → R → Bool) → List R → R → Bool
-has s [] x = false
-has s (y ∷ ys) x = s y x || has s ys x
+has s ys x = list_any (λ y. s y x) ys
 
 -- the first members of their classes among offers, in their order, where `before` was offered already
 abbrev pub first_offers : {R : Type 0} → (R → R → Bool) → List R → List R → List R
@@ -59,8 +60,8 @@ pub record Lawful {R : Type 0} (s : R → R → Bool) (m xs : List R) (l : Liste
   pub stays : (d : R) (before : List R) (x : R) (later : List R) → xs ≡ before ++ x ∷ later → has s before x ≡ false
       → length (held_in (run s (begun m) before)) < length m → slice_index_or (held_in l) (length (held_in (run s (begun m) before))) d ≡ x
   -- there is no room for a record exactly when it is the same as none held and the memory is full
-  pub no_room_means : (x : R) → answer s l.memory l.count x ≡ NoRoom → (has s (held_in l) x ≡ false) × (length m ≤ length (held_in l))
-  pub no_room_when : (x : R) → has s (held_in l) x ≡ false → length m ≤ length (held_in l) → answer s l.memory l.count x ≡ NoRoom
+  pub no_room_means : (x : R) → answer s l.memory l.count x ≡ no_room → (has s (held_in l) x ≡ false) × (length m ≤ length (held_in l))
+  pub no_room_when : (x : R) → has s (held_in l) x ≡ false → length m ≤ length (held_in l) → answer s l.memory l.count x ≡ no_room
   -- the held records lie in the memory, and what lies past them is as it was
   pub inside : (l.count ≡ length (held_in l)) × (length l.memory ≡ length m)
   pub untouched : drop l.count l.memory ≡ drop l.count m

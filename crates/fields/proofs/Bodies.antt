@@ -1,14 +1,12 @@
 -- Reading the nodes of a body one after the other.
-use Rattle.std.proofs.Common.{◌≡◌, ℕ, zero, suc, ◌-◌, ◌<◌, ◌≤◌, false, ◌&&◌, eqb, List, [], ◌∷◌, ◌++◌, length, get_or, take, drop, replicate, Some, None, Ok, Err, Option, Result, sym, refl, ap, ◌∙◌, append_assoc, append-nil, arith, length-append, take_all, drop-cons, eq-eqb, ne_eqb}
+use Rattle.std.proofs.Common.{◌≡◌, ℕ, suc, ◌-◌, ◌<◌, ◌≤◌, List, [], ◌∷◌, ◌++◌, length, get_or, take, drop, Some, None, Ok, Err, Option, Result, sym, refl, ap, ◌∙◌, append_assoc, append-nil, arith, length-append, take_all}
 use Rattle.format.specs.declared.node.Kind.{Kind}
-use Rattle.format.specs.declared.node.Kind.TheVariants.{Inner, Word, Empty, Foot}
-use Rattle.format.specs.declared.node.Form.{Form}
-use Rattle.format.specs.declared.node.Form.TheVariants.{Initial, Auxiliary}
 use Rattle.format.specs.declared.node.Node.{Node}
 use Rattle.format.specs.Trees.{Entry, entry, plain_node}
-use Rattle.format.specs.Judge.{entries, entry_or, entry_before, kind_of, arity, arities, feet_right}
-use Rattle.format.specs.Ends.{bares, fresh, freshes}
-use Rattle.format.specs.Parts.{pair, feet, feet_before, no_node}
+use Rattle.format.specs.Judge.{entries, entry_or, entry_before, kind_of}
+use Rattle.format.specs.Ends.{fresh, freshes}
+use Rattle.fields.proofs.Closing.{length_freshes}
+use Rattle.format.specs.Parts.{pair}
 
 -- entries in front of what is read later
 abbrev pub after : List Entry → Result (List Entry) ℕ → Result (List Entry) ℕ
@@ -35,17 +33,13 @@ freshes_more : (es : List Entry) (e : Entry) → freshes es ++ (fresh e ∷ []) 
 freshes_more [] e = refl
 freshes_more (f ∷ es) e = ap (λ (l : List Node). fresh f ∷ l) (freshes_more es e)
 
-length_freshes : (es : List Entry) → length (freshes es) ≡ length es
-length_freshes [] = refl
-length_freshes (e ∷ es) = ap suc (length_freshes es)
-
 -- the next node, by the four bytes at the front of what is left
 next_entry : (labels words i : ℕ) (rest : List ℕ) → 4 ≤ length rest
     → entries labels words i rest ≡ entry_or i (kind_of labels words (get_or rest 0 0) (pair (get_or rest 1 0) (get_or rest 2 0))) (get_or rest 3 0) (entries labels words (suc i) (take (length rest - 4) (drop 4 rest)))
-next_entry labels words i [] h = elim (let f : ⊥ = omega arith in f) [ ]
-next_entry labels words i (a ∷ []) h = elim (let f : ⊥ = omega arith in f) [ ]
-next_entry labels words i (a ∷ (b ∷ [])) h = elim (let f : ⊥ = omega arith in f) [ ]
-next_entry labels words i (a ∷ (b ∷ (c ∷ []))) h = elim (let f : ⊥ = omega arith in f) [ ]
+next_entry labels words i [] h = absurd (omega arith)
+next_entry labels words i (a ∷ []) h = absurd (omega arith)
+next_entry labels words i (a ∷ (b ∷ [])) h = absurd (omega arith)
+next_entry labels words i (a ∷ (b ∷ (c ∷ []))) h = absurd (omega arith)
 next_entry labels words i (a ∷ (b ∷ (c ∷ (d ∷ more)))) h =
     ap (λ (l : List ℕ). entry_or i (kind_of labels words a (pair b c)) d (entries labels words (suc i) l)) (sym (take_all (suc (suc (suc (suc (length more)))) - 4) more (omega arith)))
 
@@ -90,44 +84,9 @@ no_more labels words i [] h = refl
 no_more labels words i (a ∷ []) h = refl
 no_more labels words i (a ∷ (b ∷ [])) h = refl
 no_more labels words i (a ∷ (b ∷ (c ∷ []))) h = refl
-no_more labels words i (a ∷ (b ∷ (c ∷ (d ∷ more)))) h = elim (let f : ⊥ = omega arith in f) [ ]
+no_more labels words i (a ∷ (b ∷ (c ∷ (d ∷ more)))) h = absurd (omega arith)
 
 pub all_read : (labels words : ℕ) (body : List ℕ) (ns : List Node) (rest : List ℕ) → length rest < 4
     → ReadSoFar labels words body ns rest → (es : List Entry) × (entries labels words 0 body ≡ Ok es) × (ns ≡ freshes es)
 all_read labels words body ns rest h r =
     (r.es, r.whole ∙ (ap (after r.es) (no_more labels words (length r.es) rest h) ∙ ap Ok (append-nil r.es)), r.same)
-
-pub arities_at : (ns : List Node) (i : ℕ) → i < length ns
-    → arities (bares (drop i ns)) ≡ (arity (get_or ns i no_node).kind (get_or ns i no_node).children && arities (bares (drop (suc i) ns)))
-arities_at ns i h = ap (λ (l : List Node). arities (bares l)) (drop-cons ns i no_node h)
-
-pub feet_at : (ns : List Node) (i : ℕ) → i < length ns
-    → feet (bares (drop i ns)) ≡ feet_before (get_or ns i no_node).kind (feet (bares (drop (suc i) ns)))
-feet_at ns i h = ap (λ (l : List Node). feet (bares l)) (drop-cons ns i no_node h)
-
-pub no_foot : (k : Kind) (fs : List ℕ) → ((x : ℕ) → k ≡ Foot x → ⊥) → feet_before k fs ≡ fs
-no_foot (Inner l) fs h = refl
-no_foot (Word w) fs h = refl
-no_foot Empty fs h = refl
-no_foot (Foot l) fs h = elim (h l refl) [ ]
-
-pub wrong_foot : (f : Form) (l foot n : ℕ) (fs : List ℕ) → (foot ≡ l → ⊥) → feet_right f l (replicate n l ++ (foot ∷ fs)) ≡ false
-wrong_foot Initial l foot zero fs h = refl
-wrong_foot Initial l foot (suc n) fs h = refl
-wrong_foot Auxiliary l foot zero [] h = ne_eqb foot l h
-wrong_foot Auxiliary l foot zero (g ∷ fs) h = refl
-wrong_foot Auxiliary l foot (suc zero) fs h = refl
-wrong_foot Auxiliary l foot (suc (suc n)) fs h = refl
-
-pub one_more_foot : (n l : ℕ) (fs : List ℕ) → replicate n l ++ (l ∷ fs) ≡ replicate (suc n) l ++ fs
-one_more_foot zero l fs = refl
-one_more_foot (suc n) l fs = ap (λ (q : List ℕ). l ∷ q) (one_more_foot n l fs)
-
-pub initial_feet : (n l : ℕ) → feet_right Initial l (replicate n l ++ []) ≡ eqb n 0
-initial_feet zero l = refl
-initial_feet (suc n) l = sym (ne_eqb (suc n) 0 (λ e. omega arith))
-
-pub auxiliary_feet : (n l : ℕ) → feet_right Auxiliary l (replicate n l ++ []) ≡ eqb n 1
-auxiliary_feet zero l = sym (ne_eqb 0 1 (λ e. omega arith))
-auxiliary_feet (suc zero) l = eq-eqb l l refl
-auxiliary_feet (suc (suc n)) l = sym (ne_eqb (suc (suc n)) 1 (λ e. omega arith))

@@ -16,7 +16,7 @@ pub record Closing (es : List Entry) (ns : List Node) (i : ℕ) : Type 0 where
   pub laid : drop i ns ≡ lay i row
   pub front : take i ns ≡ take i (freshes es)
 
-length_freshes : (es : List Entry) → length (freshes es) ≡ length es
+pub length_freshes : (es : List Entry) → length (freshes es) ≡ length es
 length_freshes [] = refl
 length_freshes (e ∷ es) = ap suc (length_freshes es)
 
@@ -31,7 +31,7 @@ abbrev no_entry : Entry
 no_entry = bare no_node
 
 getD_freshes : (es : List Entry) (j : ℕ) → j < length es → get_or (freshes es) j no_node ≡ fresh (get_or es j no_entry)
-getD_freshes [] j h = elim (let f : ⊥ = omega arith in f) [ ]
+getD_freshes [] j h = absurd (omega arith)
 getD_freshes (e ∷ es) zero h = refl
 getD_freshes (e ∷ es) (suc j) h = getD_freshes es j (omega arith)
 
@@ -115,7 +115,7 @@ closing_fails es ns i j e h len c was =
     ap alone (ap plant (sym (take-append-drop j es)) ∙ plant_none (take j es) (drop j es) here)
 
 ends_alone : (es : List Entry) (ns : List Node) (r : Row) (b : Bool) → plant es ≡ Some r → ns ≡ lay 0 r → eqb (get_or ns 0 no_node).end (length ns) ≡ b → 0 < length ns → Closed es ns b
-ends_alone es ns none b p l e h = elim (let f : ⊥ = omega (arith, ap length l) in f) [ ]
+ends_alone es ns none b p l e h = absurd (omega (arith, ap length l))
 ends_alone es ns (node k kids none) true p l e h = (node k kids none, ap alone p, l)
 ends_alone es ns (node k kids none) false p l e h =
     let n = ap length l ∙ length_lay 0 (node k kids none) in
@@ -125,7 +125,7 @@ ends_alone es ns (node k kids (node m a b)) true p l e h =
     let n = ap length l ∙ length_lay 0 (node k kids (node m a b)) in
     let q : (get_or ns 0 no_node).end ≡ suc 0 + size kids = ap (λ (q : List Node). (get_or q 0 no_node).end) l in
     let t = eqb-true (get_or ns 0 no_node).end (length ns) e in
-    elim (let f : ⊥ = omega arith in f) [ ]
+    absurd (omega arith)
 ends_alone es ns (node k kids (node m a b)) false p l e h = ap alone p
 
 pub closing_ends : (es : List Entry) (ns : List Node) (i : ℕ) → i ≡ 0 → Closing es ns i → 0 < length ns → Closed es ns (eqb (get_or ns 0 no_node).end (length ns))
@@ -135,4 +135,4 @@ closing_ends es ns i e c h =
 
 pub none_to_close : (es : List Entry) → length es ≡ 0 → alone (plant es) ≡ None
 none_to_close [] h = refl
-none_to_close (e ∷ es) h = elim (let f : ⊥ = omega arith in f) [ ]
+none_to_close (e ∷ es) h = absurd (omega arith)

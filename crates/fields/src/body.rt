@@ -6,7 +6,8 @@ ghost use Rattle.format.specs.Ends.{freshes, bares};
 ghost use Rattle.fields.specs.Reading.{Agrees, judge_nodes};
 ghost use Rattle.format.specs.Parts.{feet};
 
-use crate::field::{kind_of, pair};
+use crate::field::pair;
+use crate::header::Header;
 use crate::stop::Stop;
 use format::fault::{Refusal, Rule};
 use format::node::{Form, Kind, Node};
@@ -25,23 +26,16 @@ fn fresh(kind: Kind, children: u8) -> Node
 }
 
 /// The nodes of a body in the order of the file, or the first with a bad kind or name.
-pub(crate) fn read_nodes(
-    heap: Global,
-    labels: u8,
-    words: u16,
-    body: &[u8],
-) -> Result<Vec<Node>, Stop>
-    ensures { Agrees (judge_nodes (entries labels words 0 body.now)) (λ v es. v.items ≡ freshes es) result }
+pub(crate) fn read_nodes(heap: Global, header: Header, body: &[u8]) -> Result<Vec<Node>, Stop>
+    ensures { Agrees (judge_nodes (entries header.labels header.words 0 body.now)) (λ v es. v.items ≡ freshes es) result }
 {
     let mut nodes = Vec::new(heap);
     let mut rest = body;
     while let [kind, high, low, children, more @ ..] = rest {
-        let Some(kind) = kind_of(labels, words, *kind, pair(*high, *low)) else {
-            return Err(Stop::Broken(Refusal {
-                rule: Rule::Name,
-                node: nodes.len(),
-            }));
-        };
+        let kind = header.kind(*kind, pair(*high, *low)).ok_or(Refusal {
+            rule: Rule::Name,
+            node: nodes.len(),
+        })?;
         nodes.push(fresh(kind, *children))?;
         rest = more;
     }
@@ -62,30 +56,23 @@ fn fits(kind: Kind, children: u8) -> bool
 pub(crate) fn arities(nodes: &[Node]) -> bool
     ensures { result ≡ arities (bares nodes.now) }
 {
-    for node in nodes {
-        if !fits(node.kind, node.children) {
-            return false;
-        }
-    }
-    true
+    nodes.iter().all(|node| fits(node.kind, node.children))
 }
 
 /// Whether the feet are right for a tree of this form whose root has the label.
 pub(crate) fn feet_right(form: Form, label: u8, nodes: &[Node]) -> bool
     ensures { result ≡ feet_right form label (feet (bares nodes.now)) }
 {
-    let mut feet: usize = 0;
-    for node in nodes {
-        let Kind::Foot(foot) = node.kind else {
-            continue;
-        };
-        if foot != label {
-            return false;
-        }
-        feet += 1;
-    }
+    let feet = nodes
+        .iter()
+        .filter(|node| matches!(node.kind, Kind::Foot(_)))
+        .count();
+    let labelled = nodes
+        .iter()
+        .filter(|node| node.kind == Kind::Foot(label))
+        .count();
     match form {
         Form::Initial => feet == 0,
-        Form::Auxiliary => feet == 1,
+        Form::Auxiliary => labelled == feet && feet == 1,
     }
 }

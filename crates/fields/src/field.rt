@@ -1,17 +1,13 @@
 //! Fields: one tag byte, two length bytes and the body.
 ghost use Rattle.std.specs.Prelude.{◌≡◌, ℕ, ◌+◌, ◌*◌, ◌<◌, ◌≤◌, length};
-ghost use Rattle.format.specs.Judge.{tag_of, kind_of};
 ghost use Rattle.fields.specs.Cuts.{CutField};
 ghost use Rattle.format.specs.Parts.{pair};
-
-use format::node::{Form, Kind};
-use format::stage::Tag;
 
 /// Two bytes as one number, the high byte first.
 pub fn pair(high: u8, low: u8) -> u16
     ensures { result ≡ 256 * high + low }
 {
-    256 * u16::from(high) + u16::from(low)
+    u16::from_be_bytes([high, low])
 }
 
 /// A field: its tag byte and its body, and the bytes behind it.
@@ -29,39 +25,11 @@ pub fn next_field(bytes: &[u8]) -> Option<Field<'_>>
     let [tag, high, low, more @ ..] = bytes else {
         return None;
     };
-    let size = pair(*high, *low) as usize;
-    if more.len() < size {
-        return None;
-    }
+    let size = usize::from(pair(*high, *low));
+    let (body, rest) = more.split_at_checked(size)?;
     Some(Field {
         tag: *tag,
-        body: &more[..size],
-        rest: &more[size..],
+        body,
+        rest,
     })
-}
-
-/// What a field is, by its tag byte.
-pub fn tag_of(tag: u8) -> Option<Tag>
-    ensures { result ≡ tag_of tag }
-{
-    match tag {
-        1 => Some(Tag::Header),
-        2 => Some(Tag::Tree(Form::Initial)),
-        3 => Some(Tag::Tree(Form::Auxiliary)),
-        4 => Some(Tag::Adjoining),
-        _ => None,
-    }
-}
-
-/// A node's kind by its kind byte and its name, or none where either is bad.
-pub(crate) fn kind_of(labels: u8, words: u16, kind: u8, name: u16) -> Option<Kind>
-    ensures { result ≡ kind_of labels words kind name }
-{
-    match kind {
-        0 if 0 < name && name <= u16::from(labels) => Some(Kind::Inner(name as u8)),
-        1 if 0 < name && name <= words => Some(Kind::Word(name)),
-        2 if name == 0 => Some(Kind::Empty),
-        3 if 0 < name && name <= u16::from(labels) => Some(Kind::Foot(name as u8)),
-        _ => None,
-    }
 }

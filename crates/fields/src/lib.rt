@@ -3,6 +3,7 @@
 
 mod body;
 pub mod field;
-mod shape;
+pub mod header;
+pub mod shape;
 pub mod stop;
 pub mod tree;

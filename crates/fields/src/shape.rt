@@ -5,15 +5,13 @@ ghost use Rattle.format.specs.Ends.{past, bares, freshes, Closed};
 use format::node::Node;
 
 /// The number past the `count` subtrees that begin at `from`, by their ends; none where fewer begin there.
-pub(crate) fn past_subtrees(nodes: &[Node], from: usize, count: u8) -> Option<usize>
+pub fn past_subtrees(nodes: &[Node], from: usize, count: u8) -> Option<usize>
     ensures { result ≡ past nodes.now count from }
 {
     let mut at = from;
+    // Each child is found from the one before, so there is no list of children to go through.
     for _child in 0..count {
-        if at >= nodes.len() {
-            return None;
-        }
-        at = nodes[at].end;
+        at = nodes.get(at)?.end;
     }
     Some(at)
 }
@@ -24,11 +22,12 @@ pub(crate) fn close_subtrees(nodes: &mut [Node]) -> bool
     requires { nodes.old ≡ freshes (bares nodes.old) }
     ensures { Closed (bares nodes.old) nodes.new result }
 {
+    // By number: a node is written while those behind it are read, and no iterator lends both.
     for i in (0..nodes.len()).rev() {
         let Some(end) = past_subtrees(nodes, i + 1, nodes[i].children) else {
             return false;
         };
         nodes[i].end = end;
     }
-    !nodes.is_empty() && nodes[0].end == nodes.len()
+    nodes.first().is_some_and(|root| root.end == nodes.len())
 }

@@ -5,8 +5,9 @@ ghost use Rattle.format.specs.Ends.{freshes, bares};
 ghost use Rattle.fields.specs.Reading.{Agrees, Shaped, Laid};
 
 use crate::body::{arities, feet_right, read_nodes};
+use crate::header::Header;
 use crate::shape::close_subtrees;
-use crate::stop::{Stop, refuse};
+use crate::stop::Stop;
 use format::fault::Rule;
 use format::node::{Form, Kind, Node};
 use std::alloc::Global;
@@ -16,19 +17,13 @@ pub(crate) fn shape(nodes: &mut [Node]) -> Option<u8>
     requires { nodes.old ≡ freshes (bares nodes.old) }
     ensures { Shaped (one_tree (bares nodes.old)) nodes.new result }
 {
-    if !arities(nodes) {
+    if !arities(nodes) || !close_subtrees(nodes) {
         return None;
     }
-    if !close_subtrees(nodes) {
-        return None;
+    match nodes.first()?.kind {
+        Kind::Inner(label) => Some(label),
+        _ => None,
     }
-    let [root, ..] = nodes else {
-        return None;
-    };
-    let Kind::Inner(label) = root.kind else {
-        return None;
-    };
-    Some(label)
 }
 
 /// The nodes of a tree, with the root's label.
@@ -39,21 +34,13 @@ pub struct Planted {
 }
 
 /// The tree of a body, by the rules for a tree of this form.
-pub fn read_tree(
-    heap: Global,
-    labels: u8,
-    words: u16,
-    form: Form,
-    body: &[u8],
-) -> Result<Planted, Stop>
-    ensures { Agrees (judge_shape form (entries labels words 0 body.now)) Laid result }
+pub fn read_tree(heap: Global, header: Header, form: Form, body: &[u8]) -> Result<Planted, Stop>
+    ensures { Agrees (judge_shape form (entries header.labels header.words 0 body.now)) Laid result }
 {
-    let mut nodes = read_nodes(heap, labels, words, body)?;
-    let Some(label) = shape(nodes.as_mut_slice()) else {
-        return Err(refuse(Rule::Shape));
-    };
+    let mut nodes = read_nodes(heap, header, body)?;
+    let label = shape(nodes.as_mut_slice()).ok_or(Rule::Shape)?;
     if !feet_right(form, label, nodes.as_slice()) {
-        return Err(refuse(Rule::Foot));
+        return Err(Rule::Foot.into());
     }
     Ok(Planted { label, nodes })
 }

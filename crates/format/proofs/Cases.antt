@@ -2,7 +2,7 @@
 use Rattle.std.proofs.Common.{◌≡◌, ℕ, Bool, true, false, cond, Ok, Err, Result, refl, arith}
 
 pub nothing : {X : Type 0} → ◌≡◌ {A = ℕ} 0 1 → X
-nothing z = elim (let f : ⊥ = omega arith in f) [ ]
+nothing z = absurd (omega arith)
 
 pub never : {X Y E : Type 0} (e : E) (y : Y) → Err e ≡ Ok y → X
 never e y h = nothing (let z : ◌≡◌ {A = ℕ} 0 1 = cc in z)

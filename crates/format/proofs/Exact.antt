@@ -12,7 +12,7 @@ use Rattle.format.specs.Format.{code_of, name_of, Spells, Named, Arity, Footed}
 use Rattle.format.specs.Parts.{pair}
 
 nothing : {X : Type 0} → ◌≡◌ {A = ℕ} 0 1 → X
-nothing z = elim (let f : ⊥ = omega arith in f) [ ]
+nothing z = absurd (omega arith)
 
 -- a test that gives a value
 given : (b : Bool) (x k : Kind) → cond b (Some x) None ≡ Some k → (b ≡ true) × (x ≡ k)

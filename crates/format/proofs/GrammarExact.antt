@@ -192,7 +192,7 @@ some_is i (t ∷ ts) h = by t.form refl h (some_is (i + size (as_row t)) ts)
     by Auxiliary e q again = let r = again q in (suc r.0, omega (arith, r.1), r.2)
 
 pub is_some : (i : ℕ) (ts : List Elementary) (t : ℕ) → t < length ts → (tree_at ts t).form ≡ Initial → some_initial (trees_from i ts) ≡ true
-is_some i [] t l h = elim (let f : ⊥ = omega arith in f) [ ]
+is_some i [] t l h = absurd (omega arith)
 is_some i (x ∷ ts) zero l h = ap (λ (f : Form). not (is_auxiliary f) || some_initial (trees_from (i + size (as_row x)) ts)) h
 is_some i (x ∷ ts) (suc t) l h = by x.form (is_some (i + size (as_row x)) ts t (omega arith) h)
   where

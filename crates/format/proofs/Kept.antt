@@ -1,5 +1,7 @@
 -- A grammar with a description by the rules keeps the rules as the table has them.
 use Rattle.std.proofs.Common.{◌≡◌, ℕ, zero, suc, ◌+◌, ◌<◌, ◌≤◌, Bool, true, false, ◌||◌, ◌⊎◌, List, [], ◌∷◌, ◌++◌, length, get_or, take, drop, set, replicate, is_some as option_is_some, Some, None, Option, sym, refl, ap, ◌∙◌, subst, inl, inr, arith, length-set, get_or-drop, take_all, get_or-set_other, get_or-take, get_or-set_same}
+use Rattle.std.proofs.lemmas.Grind.{common_steps}
+use Rattle.std.proofs.lemmas.List.Elements.{All-get_or, All-from_recursion}
 use native.Mathlib.Decide.{dec_lt}
 use lib.ListN.{get_or-eq_default}
 use lib.Seq.{take-append-le}
@@ -86,7 +88,7 @@ getD_erases (v ∷ ns) (suc i) = getD_erases ns i
 
 -- the nodes of tree t, where the trees are laid out
 part_of : (ts : List Elementary) (t : ℕ) → t < length ts → take (size (as_row (tree_at ts t))) (drop (before ts t) (laid_out ts)) ≡ lay 0 (as_row (tree_at ts t))
-part_of [] t h = elim (let f : ⊥ = omega arith in f) [ ]
+part_of [] t h = absurd (omega arith)
 part_of (x ∷ ts) zero h =
     take-append-le (size (as_row x)) (lay 0 (as_row x)) (laid_out ts) (omega (arith, length_lay 0 (as_row x))) ∙ take_all (size (as_row x)) (lay 0 (as_row x)) (omega (arith, length_lay 0 (as_row x)))
 part_of (x ∷ ts) (suc t) h =
@@ -94,15 +96,13 @@ part_of (x ∷ ts) (suc t) h =
   where
     dropped : (xs ys : List Node) (n k : ℕ) → length xs ≡ n → drop (n + k) (xs ++ ys) ≡ drop k ys
     dropped [] ys n k e = ap (λ (m : ℕ). drop m ys) (omega arith)
-    dropped (y ∷ xs) ys zero k e = elim (let f : ⊥ = omega arith in f) [ ]
+    dropped (y ∷ xs) ys zero k e = absurd (omega arith)
     dropped (y ∷ xs) ys (suc n) k e = ap (λ (m : ℕ). drop m (y ∷ (xs ++ ys))) (let q : suc n + k ≡ suc (n + k) = omega arith in q) ∙ dropped xs ys n k (omega arith)
 
 -- Lookups ---------------------------------------------------------------------------------------------------------------
 
 all_at : {X : Type 0} (P : X → Type 0) (xs : List X) (d : X) (n : ℕ) → AllByRecursion P xs → n < length xs → P (get_or xs n d)
-all_at P [] d n h l = elim (let f : ⊥ = omega arith in f) [ ]
-all_at P (x ∷ xs) d zero h l = h.0
-all_at P (x ∷ xs) d (suc n) h l = all_at P xs d n h.1 (omega arith)
+all_at P xs d n h l = All-get_or P xs n d l (All-from_recursion P xs h)
 
 -- ends are followed alike with and without constraints
 pass_erases : (vs : List Node) (k i : ℕ) → pass (erases vs) k i ≡ pass vs k i
@@ -141,7 +141,7 @@ count_feet (v ∷ vs) = by v.kind (count_feet vs)
     by (Foot l) e = omega arith
 
 foot_among : (P : ℕ → Type 0) (es : List Entry) (n : ℕ) → AllByRecursion P (feet es) → n < length es → is_foot (get_or es n no_entry).kind ≡ true → P (label_of_kind (get_or es n no_entry).kind)
-foot_among P [] n h l e = elim (let f : ⊥ = omega arith in f) [ ]
+foot_among P [] n h l e = absurd (omega arith)
 foot_among P (x ∷ es) zero h l e = by x.kind h e
   where
     by : (k : Kind) → AllByRecursion P (feet_before k (feet es)) → is_foot k ≡ true → P (label_of_kind k)
@@ -194,9 +194,7 @@ is_adjoinable (Foot l) h = refl
 -- Sets of trees -----------------------------------------------------------------------------------------------------------
 
 none_listed : (n b : ℕ) → get_or (replicate n false) b false ≡ false
-none_listed zero b = refl
-none_listed (suc n) zero = refl
-none_listed (suc n) (suc b) = none_listed n b
+none_listed n b = grind (arith, common_steps)
 
 abbrev Suits : List Elementary → ℕ → ℕ → Type 0
 Suits ts l b = (b < length ts) × ((tree_at ts b).form ≡ Auxiliary) × ((tree_at ts b).label ≡ l)
@@ -220,7 +218,7 @@ any_set (b ∷ s) (suc i) h = by b h (any_set s i)
     by false h again = again h
 
 any_new : (s : List Bool) (i : ℕ) → i < length s → any (set s i true) ≡ true
-any_new [] i h = elim (let f : ⊥ = omega arith in f) [ ]
+any_new [] i h = absurd (omega arith)
 any_new (b ∷ s) zero h = refl
 any_new (b ∷ s) (suc i) h = by b (any_new s i (omega arith))
   where
@@ -233,7 +231,7 @@ any_mark [] s h = h
 any_mark (b ∷ bs) s h = any_mark bs (set s b true) (any_set s b h)
 
 some_mark : (ts : List Elementary) (l : ℕ) (bs : List ℕ) → 0 < length bs → Takes ts l 0 bs → length ts ≤ 64 → any (mark bs no_list) ≡ true
-some_mark ts l [] h k few = elim (let f : ⊥ = omega arith in f) [ ]
+some_mark ts l [] h k few = absurd (omega arith)
 some_mark ts l (b ∷ bs) h k few = any_mark bs (set no_list b true) (any_new no_list b (let q = k.1 in omega arith))
 
 met : (o : Obligation) (ts : List Elementary) (l : ℕ) (bs : List ℕ) → is_optional o ≡ false → CanMeet o bs → Takes ts l 0 bs → length ts ≤ 64 → any (mark bs no_list) ≡ true
@@ -359,7 +357,7 @@ module _ (d : Description) (rules : Rules d) where
       by (no h) =
           let e : tree_in c t ≡ no_tree = get_or-eq_default us no_tree (omega (arith, trees_long)) in
           let z : length (nodes_in c t) ≡ 0 = ap (λ (u : Tree). length (take u.size (drop u.start ns))) e in
-          elim (let f : ⊥ = omega arith in f) [ ]
+          absurd (omega arith)
 
   -- a node with a constraint is there
   node_there : (t n : ℕ) → option_is_some (node_in c t n).constraint ≡ true → n < length (nodes_in c t)

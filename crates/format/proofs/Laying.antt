@@ -1,5 +1,5 @@
 -- How a row of trees lies in a table.
-use Rattle.std.proofs.Common.{◌≡◌, ℕ, zero, suc, ◌+◌, ◌<◌, ◌≤◌, Bool, cond, List, [], ◌∷◌, ◌++◌, length, get_or, drop, Some, None, Option, sym, refl, ap, ◌∙◌, append_assoc, arith, length-append, drop-drop, le-ltb, lt-ltb}
+use Rattle.std.proofs.Common.{◌≡◌, ℕ, zero, suc, ◌+◌, ◌<◌, ◌≤◌, Bool, cond, List, [], ◌∷◌, ◌++◌, length, get_or, drop, Some, None, Option, sym, refl, ap, ◌∙◌, append_assoc, arith, length-append, drop-drop, le-ltb, lt-ltb, length-drop}
 use lib.Seq.{drop-append_seam}
 use Rattle.format.specs.declared.node.Kind.{Kind}
 use Rattle.format.specs.declared.node.Node.{Node}
@@ -30,9 +30,7 @@ read_at (y ∷ l) zero d x xs h = (omega arith, cc, cc)
 read_at (y ∷ l) (suc i) d x xs h = let r = read_at l i d x xs h in (omega arith, r.1, r.2)
 
 nothing_at : {X : Type 0} (l : List X) (i : ℕ) → drop i l ≡ [] → length l ≤ i
-nothing_at [] i h = omega arith
-nothing_at (y ∷ l) zero h = elim (let z : ◌≡◌ {A = ℕ} 0 1 = cc in let f : ⊥ = omega arith in f) [ ]
-nothing_at (y ∷ l) (suc i) h = let r = nothing_at l i h in omega arith
+nothing_at l i h = omega (arith, length-drop i l, ap length h)
 
 -- the number past the trees that are parted off
 abbrev pub past_part : ℕ → Parted → Option ℕ

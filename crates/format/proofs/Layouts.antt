@@ -33,7 +33,7 @@ module _ (ns : List Node) (i : ℕ) (k : Kind) (kids rest later : Row) (h : drop
 
 -- no subtree of a row ends behind the row
 ends_in_row : (ns : List Node) (i n : ℕ) (r later : Row) → drop i ns ≡ lay i (r ⊕ later) → i ≤ n → n < i + size r → (get_or ns n no_node).end ≤ i + size r
-ends_in_row ns i n none later h a b = elim (let f : ⊥ = omega arith in f) [ ]
+ends_in_row ns i n none later h a b = absurd (omega arith)
 ends_in_row ns i n (node k kids rest) later h a b =
     at (dec_lt n (suc i)) (dec_lt n (suc i + size kids))
     (ends_in_row ns (suc i) n kids (rest ⊕ later) (inside ns i k kids rest later h)) (ends_in_row ns (suc i + size kids) n rest later (beside ns i k kids rest later h))
@@ -57,7 +57,7 @@ passes_row ns i (node k kids rest) later h =
     ∙ (passes_row ns (suc i + size kids) rest later (beside ns i k kids rest later h) ∙ (let e : suc i + size kids + size rest ≡ i + suc (size kids + size rest) = omega arith in e))
 
 pass_in_row : (ns : List Node) (i m : ℕ) (r later : Row) → drop i ns ≡ lay i (r ⊕ later) → m < trees_in r → pass ns m i < i + size r
-pass_in_row ns i m none later h l = elim (let f : ⊥ = omega arith in f) [ ]
+pass_in_row ns i m none later h l = absurd (omega arith)
 pass_in_row ns i zero (node k kids rest) later h l = omega arith
 pass_in_row ns i (suc m) (node k kids rest) later h l =
     let r = pass_in_row ns (suc i + size kids) m rest later (beside ns i k kids rest later h) (omega arith) in
@@ -78,7 +78,7 @@ root_nested ns i k kids rest later h =
     }
 
 nested_in : (ns : List Node) (i n : ℕ) (r later : Row) → drop i ns ≡ lay i (r ⊕ later) → i ≤ n → n < i + size r → Nested ns n
-nested_in ns i n none later h a b = elim (let f : ⊥ = omega arith in f) [ ]
+nested_in ns i n none later h a b = absurd (omega arith)
 nested_in ns i n (node k kids rest) later h a b =
     at (dec_lt n (suc i)) (dec_lt n (suc i + size kids))
     (nested_in ns (suc i) n kids (rest ⊕ later) (inside ns i k kids rest later h)) (nested_in ns (suc i + size kids) n rest later (beside ns i k kids rest later h))

@@ -44,7 +44,7 @@ before (u ∷ ts) zero = 0
 before (u ∷ ts) (suc t) = size (as_row u) + before ts t
 
 pub tree_placed : (i : ℕ) (ts : List Elementary) (t : ℕ) → t < length ts → get_or (trees_from i ts) t no_tree ≡ placed (i + before ts t) (tree_at ts t)
-tree_placed i [] t h = elim (let f : ⊥ = omega arith in f) [ ]
+tree_placed i [] t h = absurd (omega arith)
 tree_placed i (u ∷ ts) zero h = ap (λ (n : ℕ). placed n u) (let e : i ≡ i + 0 = omega arith in e)
 tree_placed i (u ∷ ts) (suc t) h =
     tree_placed (i + size (as_row u)) ts t (omega arith)
@@ -55,15 +55,15 @@ slot_is ts t n h = ap (λ (u : Tree). u.start + n) (tree_placed 0 ts t h) ∙ (l
 
 -- a tree's nodes end before those of a later tree begin
 later : (ts : List Elementary) (t u : ℕ) → t < u → u < length ts → before ts t + size (as_row (tree_at ts t)) ≤ before ts u
-later [] t u l h = elim (let f : ⊥ = omega arith in f) [ ]
-later (x ∷ ts) zero zero l h = elim (let f : ⊥ = omega arith in f) [ ]
-later (x ∷ ts) (suc t) zero l h = elim (let f : ⊥ = omega arith in f) [ ]
+later [] t u l h = absurd (omega arith)
+later (x ∷ ts) zero zero l h = absurd (omega arith)
+later (x ∷ ts) (suc t) zero l h = absurd (omega arith)
 later (x ∷ ts) zero (suc u) l h = omega arith
 later (x ∷ ts) (suc t) (suc u) l h = let e = later ts t u (omega arith) (omega arith) in omega arith
 
 -- and all end in the table
 pub within : (ts : List Elementary) (t : ℕ) → t < length ts → before ts t + size (as_row (tree_at ts t)) ≤ sizes ts
-within [] t h = elim (let f : ⊥ = omega arith in f) [ ]
+within [] t h = absurd (omega arith)
 within (x ∷ ts) zero h = omega arith
 within (x ∷ ts) (suc t) h = let e = within ts t (omega arith) in omega arith
 
@@ -98,7 +98,7 @@ getD_behind (x ∷ xs) ys d n = ap (λ (k : ℕ). get_or (x ∷ (xs ++ ys)) k d)
 
 -- node n of tree t is what the description says
 pub entry_placed : (ts : List Elementary) (t n : ℕ) → t < length ts → n < size (as_row (tree_at ts t)) → get_or (bares (laid_out ts)) (before ts t + n) no_entry ≡ get_or (preorder (tree_at ts t)) n no_entry
-entry_placed [] t n h l = elim (let f : ⊥ = omega arith in f) [ ]
+entry_placed [] t n h l = absurd (omega arith)
 entry_placed (x ∷ ts) zero n h l =
     let long = length_flatten (as_row x) in
     ap (λ (es : List Entry). get_or es (0 + n) no_entry) (bares_++ (lay 0 (as_row x)) (laid_out ts) ∙ ap (λ (es : List Entry). es ++ bares (laid_out ts)) (bares_lay 0 (as_row x)))

@@ -15,7 +15,7 @@ pub record Walked (bytes : List ℕ) (s : State) (rest : List ℕ) : Type 0 wher
 -- bytes that belong to the field before are passed over
 pub skipped : (k place : ℕ) (s : State) (bytes : List ℕ) → k ≤ length bytes → judge_from k place (Ok s) bytes ≡ judge_from 0 (k + place) (Ok s) (drop k bytes)
 skipped zero place s bytes h = ap (λ (p : ℕ). judge_from 0 p (Ok s) bytes) (let e : place ≡ 0 + place = omega arith in e)
-skipped (suc k) place s [] h = elim (let f : ⊥ = omega arith in f) [ ]
+skipped (suc k) place s [] h = absurd (omega arith)
 skipped (suc k) place s (b ∷ bytes) h =
     skipped k (suc place) s bytes (omega arith) ∙ ap (λ (p : ℕ). judge_from 0 p (Ok s) (drop k bytes)) (let e : k + suc place ≡ suc k + place = omega arith in e)
 
@@ -26,7 +26,7 @@ nothing_walked bytes s h = record {
 }
 
 pub cut_here : (place : ℕ) (s : State) (rest : List ℕ) → 0 < length rest → Short rest → judge_from 0 place (Ok s) rest ≡ Err (fault broken.Cut place 0)
-cut_here place s [] some h = elim (let f : ⊥ = omega arith in f) [ ]
+cut_here place s [] some h = absurd (omega arith)
 cut_here place s (t ∷ []) some h = refl
 cut_here place s (t ∷ (a ∷ [])) some h = refl
 cut_here place s (t ∷ (a ∷ (b ∷ more))) some h =
@@ -82,7 +82,7 @@ refused_here place s rest tag body later r h e = (whole_field place s rest tag b
 
 pub all_walked : (bytes : List ℕ) (s : State) (rest : List ℕ) → length rest ≡ 0 → Walked bytes s rest → judge_end s.phase s (length bytes) ≡ judge_from 0 0 (Ok nothing_read) bytes
 all_walked bytes s [] h w = ap (judge_end s.phase s) (let e : length bytes ≡ length bytes - 0 = omega arith in e) ∙ w.same
-all_walked bytes s (b ∷ rest) h w = elim (let f : ⊥ = omega arith in f) [ ]
+all_walked bytes s (b ∷ rest) h w = absurd (omega arith)
 
 pub in_size : (bytes : List ℕ) → length bytes ≤ 16384 → judge bytes ≡ judge_from 0 0 (Ok nothing_read) bytes
 in_size bytes h = cond-true (leb (length bytes) 16384) (judge_from 0 0 (Ok nothing_read) bytes) (Err (fault broken.Size 16384 0)) (le-leb (length bytes) 16384 h)

@@ -1,7 +1,10 @@
 pub mod Numbers
+pub mod Lines
 pub mod Trees
 pub mod Parts
+pub mod Texts
 pub mod Judge
+pub mod Codes
 pub mod Fields
 pub mod Ends
 pub mod Format

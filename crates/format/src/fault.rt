@@ -1,38 +1,41 @@
 //! Why bytes are no grammar.
-ghost use Rattle.std.specs.Prelude.{◌≡◌};
+ghost use Rattle.std.specs.Prelude.{◌≡◌, Some};
 ghost use Rattle.format.specs.Numbers.{number, layer};
+ghost use Rattle.format.specs.Lines.{layer_name, fault_line};
+
+use std::fmt;
 
 /// The rule of the format that is broken.
-#[derive(Clone, Copy)]
+#[derive(Clone, Copy, PartialEq, Eq, Debug)]
 pub enum Rule {
     /// A field's head or body is cut short.
-    Cut,
+    Cut = 1,
     /// A tag that no field has.
-    Tag,
+    Tag = 2,
     /// The header is not first or comes again, a tree follows an adjoining field, or there are no bytes.
-    Order,
+    Order = 3,
     /// A body of the wrong length, or a header with a zero count.
-    Body,
+    Body = 4,
     /// One tree or one node too many.
-    Room,
+    Room = 5,
     /// A node of a bad kind or name.
-    Name,
+    Name = 6,
     /// The child counts do not make one tree, or the root is no inner node.
-    Shape,
+    Shape = 7,
     /// A foot in an initial tree, or not exactly one with the root's label in an auxiliary tree.
-    Foot,
+    Foot = 8,
     /// An adjoining field names an absent node, a leaf, or a node that was set before.
-    Target,
+    Target = 9,
     /// An adjoining field's third byte is above 1, or its list is against the rules.
-    List,
+    List = 10,
     /// Too many bytes.
-    Size,
+    Size = 11,
     /// No initial tree.
-    NoInitial,
+    NoInitial = 12,
 }
 
 /// The part of the format that a rule belongs to.
-#[derive(Clone, Copy)]
+#[derive(Clone, Copy, PartialEq, Eq, Debug)]
 pub enum Layer {
     Field,
     Tree,
@@ -40,14 +43,14 @@ pub enum Layer {
 }
 
 /// A broken rule within one field: the first bad node for a bad kind or name, else 0.
-#[derive(Clone, Copy)]
+#[derive(Clone, Copy, PartialEq, Eq, Debug)]
 pub struct Refusal {
     pub rule: Rule,
     pub node: usize,
 }
 
 /// The one fault of bytes that are no grammar: the broken rule, the place of the field's tag, and the node.
-#[derive(Clone, Copy)]
+#[derive(Clone, Copy, PartialEq, Eq, Debug)]
 pub struct Fault {
     pub rule: Rule,
     pub place: usize,
@@ -59,20 +62,7 @@ impl Rule {
     pub fn number(self) -> u8
         ensures { result ≡ number self }
     {
-        match self {
-            Rule::Cut => 1,
-            Rule::Tag => 2,
-            Rule::Order => 3,
-            Rule::Body => 4,
-            Rule::Room => 5,
-            Rule::Name => 6,
-            Rule::Shape => 7,
-            Rule::Foot => 8,
-            Rule::Target => 9,
-            Rule::List => 10,
-            Rule::Size => 11,
-            Rule::NoInitial => 12,
-        }
+        self as u8
     }
 
     /// The layer that the rule belongs to.
@@ -85,5 +75,29 @@ impl Rule {
             Rule::Room | Rule::Name | Rule::Shape | Rule::Foot => Layer::Tree,
             Rule::Target | Rule::List => Layer::Adjoining,
         }
+    }
+}
+
+impl fmt::Display for Layer {
+    ghost output = { λ x. Some (layer_name x) };
+
+    fn fmt<W: fmt::Write>(&self, f: &mut fmt::Formatter<W>) -> fmt::Result {
+        f.write_str(match self {
+            Layer::Field => "field",
+            Layer::Tree => "tree",
+            Layer::Adjoining => "adjoining",
+        })
+    }
+}
+
+/// The line that tells of a fault: `fault`, then its number, its layer, its place and its node.
+impl fmt::Display for Fault {
+    ghost output = { λ x. Some (fault_line x) };
+
+    fn fmt<W: fmt::Write>(&self, f: &mut fmt::Formatter<W>) -> fmt::Result {
+        let Fault { rule, place, node } = *self;
+        let number = rule.number();
+        let layer = rule.layer();
+        write!(f, "fault {number} {layer} {place} {node}")
     }
 }

@@ -1,10 +1,10 @@
 -- One more field of a draft, by the tests that the code makes.
-use Rattle.std.proofs.Common.{◌≡◌, ℕ, suc, ◌+◌, ◌-◌, ◌/◌, ◌%◌, ◌<◌, ◌≤◌, List, [], ◌∷◌, ◌++◌, length, get_or, take, drop, Ok, vec_items, sym, ap, ◌∙◌, arith, take_all}
+use Rattle.std.proofs.Common.{◌≡◌, ℕ, ◌+◌, ◌/◌, ◌%◌, ◌<◌, ◌≤◌, List, [], ◌∷◌, ◌++◌, length, Ok, vec_items, sym, ap, ◌∙◌}
 use Rattle.format.specs.declared.node.Node.{Node}
 use Rattle.format.specs.declared.node.Tree.{Tree}
 use Rattle.format.specs.declared.node.Form.{Form}
 use Rattle.format.specs.Trees.{Row, size, lay}
-use Rattle.format.specs.Judge.{State, entries, judge_shape, judge_tree, judge_adjoining, added, root_label, adjoin, adjoined}
+use Rattle.format.specs.Judge.{State, entries, judge_shape, judge_tree, added, root_label}
 use Rattle.format.proofs.Laying.{length_lay}
 use Rattle.format.proofs.TreeJudged.{tree_judged}
 use Rattle.fields.specs.Reading.{Laid}
@@ -25,12 +25,3 @@ tree_is_added s f body some fours few fit r p ts ns h laid n-is t-is =
     tree_judged s f body some fours few fit ∙ (ap (added s f) h
     ∙ (ap (λ (l : List Tree). Ok (record { phase = s.phase; labels = s.labels; words = s.words; trees = l; nodes = s.nodes ++ lay 0 r })) t-end
     ∙ ap (λ (l : List Node). Ok (record { phase = s.phase; labels = s.labels; words = s.words; trees = ts; nodes = l })) n-end))
-
--- an adjoining body of three bytes and a list
-pub in_parts : (s : State) (body : List ℕ) → 3 ≤ length body
-    → judge_adjoining s body ≡ adjoined s (adjoin s.trees s.nodes (get_or body 0 0) (get_or body 1 0) (get_or body 2 0) (take (length body - 3) (drop 3 body)))
-in_parts s [] h = elim (let f : ⊥ = omega arith in f) [ ]
-in_parts s (t ∷ []) h = elim (let f : ⊥ = omega arith in f) [ ]
-in_parts s (t ∷ (n ∷ [])) h = elim (let f : ⊥ = omega arith in f) [ ]
-in_parts s (t ∷ (n ∷ (p ∷ bs))) h =
-    ap (λ (l : List ℕ). adjoined s (adjoin s.trees s.nodes t n p l)) (sym (take_all (suc (suc (suc (length bs))) - 3) bs (omega arith)))

@@ -1,47 +1,40 @@
 -- Questions on nodes that are there, and on nodes that are not.
-use Rattle.std.proofs.Common.{◌≡◌, ℕ, zero, suc, ◌+◌, ◌<◌, ◌≤◌, Bool, true, false, cond, List, [], ◌∷◌, length, get_or, drop, Some, None, refl, ap, arith, length-drop, length-take, drop-cons}
-use lib.ListN.{get_or-eq_default}
+use Rattle.std.proofs.Common.{◌≡◌, ℕ, zero, suc, Bool, ◌<◌, ◌≤◌, cond, List, [], ◌∷◌, length, get_or, drop, Some, None, refl, ap, ◌∙◌, add-one, arith, length-drop, length-take, lt-ltb, sym}
+use Rattle.std.specs.List.{position, position_from}
+use Rattle.std.proofs.lemmas.Iterator.Adapters.{position_from-zero}
 use native.Mathlib.Nat.{min-le_right}
 use Rattle.format.specs.Layout.{pass}
-use Rattle.format.specs.Keeps.{is_foot, tree_in, nodes_in, Few}
-use Rattle.format.proofs.Cases.{nothing}
+use Rattle.format.specs.Ends.{past}
+use Rattle.format.specs.Keeps.{is_foot, tree_in, nodes_in, node_in, Few, Ends, ChildWithin}
 use Rattle.format.specs.Questions.{nth, roots_from, foot_from}
 use Rattle.format.specs.declared.node.Node.{Node}
 use Rattle.format.specs.Parts.{Contents, no_node}
 
--- a node that is not there
-pub absent : (vs ws : List Node) (n : ℕ) → ws ≡ vs → length ws ≤ n → get_or vs n no_node ≡ no_node
-absent vs ws n e h = get_or-eq_default vs no_node (omega (arith, ap length e))
-
--- one more end to follow
-pub pass_more : (vs : List Node) (k i : ℕ) → pass vs (suc k) i ≡ (get_or vs (pass vs k i) no_node).end
-pass_more vs zero i = refl
-pass_more vs (suc k) i = pass_more vs k (get_or vs i no_node).end
+-- ends that stay among the nodes are all found
+pub past_within : (vs : List Node) (k i : ℕ) → ((j : ℕ) → j < k → pass vs j i < length vs) → past vs k i ≡ Some (pass vs k i)
+past_within vs zero i h = refl
+past_within vs (suc k) i h =
+    ap (λ (b : Bool). cond b (past vs k (get_or vs i no_node).end) None) (lt-ltb i (length vs) (h 0 (omega arith)))
+    ∙ past_within vs k (get_or vs i no_node).end (λ j l. h (suc j) (omega (arith, l)))
 
 -- the child with a number is found by following so many ends
 pub nth_root : (vs : List Node) (m k i : ℕ) → k < m → nth (roots_from vs m i) k ≡ Some (pass vs k i)
-nth_root vs zero k i h = elim (let f : ⊥ = omega arith in f) [ ]
+nth_root vs zero k i h = absurd (omega arith)
 nth_root vs (suc m) zero i h = refl
 nth_root vs (suc m) (suc k) i h = nth_root vs m k (get_or vs i no_node).end (omega arith)
 
 pub no_root : (vs : List Node) (m k i : ℕ) → m ≤ k → nth (roots_from vs m i) k ≡ None
 no_root vs zero k i h = refl
-no_root vs (suc m) zero i h = elim (let f : ⊥ = omega arith in f) [ ]
+no_root vs (suc m) zero i h = absurd (omega arith)
 no_root vs (suc m) (suc k) i h = no_root vs m k (get_or vs i no_node).end (omega arith)
 
--- a node that is a foot, and one that is not
-pub foot_here : (vs : List Node) (n : ℕ) → n < length vs
-    → foot_from n (drop n vs) ≡ cond (is_foot (get_or vs n no_node).kind) (Some n) (foot_from (suc n) (drop (suc n) vs))
-foot_here vs n h = ap (foot_from n) (drop-cons vs n no_node h)
+-- the first foot by its place, among nodes that are numbered from n on
+foot_by_place : (n : ℕ) (vs : List Node) → position_from (λ v. is_foot v.kind) n vs ≡ foot_from n vs
+foot_by_place n [] = refl
+foot_by_place n (v ∷ vs) = ap (cond (is_foot v.kind) (Some n)) (ap (λ (k : ℕ). position_from (λ w. is_foot w.kind) k vs) (add-one n) ∙ foot_by_place (suc n) vs)
 
--- a foot that is found is one of the nodes
-pub foot_there : (i : ℕ) (vs : List Node) (n : ℕ) → Some n ≡ foot_from i vs → n < i + length vs
-foot_there i [] n h = nothing (let z : ◌≡◌ {A = ℕ} 0 1 = cc in z)
-foot_there i (v ∷ vs) n h = by (is_foot v.kind) h (foot_there (suc i) vs n)
-  where
-    by : (b : Bool) → Some n ≡ cond b (Some i) (foot_from (suc i) vs) → (Some n ≡ foot_from (suc i) vs → n < suc i + length vs) → n < i + length (v ∷ vs)
-    by true e again = let q : n ≡ i = cc in omega arith
-    by false e again = let q = again e in omega arith
+pub foot_by_position : (vs : List Node) → position (λ v. is_foot v.kind) vs ≡ foot_from 0 vs
+foot_by_position vs = position_from-zero (λ v. is_foot v.kind) vs ∙ foot_by_place 0 vs
 
 -- a tree has no more nodes than the table
 pub few_nodes : (d : Contents) → Few d → (t : ℕ) → length (nodes_in d t) ≤ 256
@@ -50,3 +43,12 @@ few_nodes d few t =
     let b = length-drop (tree_in d t).start d.nodes in
     let m = min-le_right (tree_in d t).size (length (drop (tree_in d t).start d.nodes)) in
     omega (arith, few.1)
+
+-- following ends finds each child, among the nodes
+pub child_place : (d : Contents) → ChildWithin d → Ends d → (t n k : ℕ) → n < length (nodes_in d t) → k < (node_in d t n).children
+    → (past (nodes_in d t) k (suc n) ≡ nth (roots_from (nodes_in d t) (node_in d t n).children (suc n)) k) × (past (nodes_in d t) k (suc n) ≡ Some (pass (nodes_in d t) k (suc n))) × (pass (nodes_in d t) k (suc n) < length (nodes_in d t))
+child_place d within ends t n k h l =
+    let e = (ends t n h).1 in
+    let each : (j : ℕ) → j ≤ k → pass (nodes_in d t) j (suc n) < length (nodes_in d t) = λ j m. let a = within t n j (h, omega (arith, l, m)) in omega (arith, a, e) in
+    let is = past_within (nodes_in d t) k (suc n) (λ j m. each j (omega (arith, m))) in
+    (is ∙ sym (nth_root (nodes_in d t) (node_in d t n).children k (suc n) l), is, each k (omega arith))

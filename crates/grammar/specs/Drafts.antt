@@ -7,7 +7,7 @@ use Rattle.fields.specs.declared.stop.Stop.TheVariants.{Broken, OutOfMemory}
 use Rattle.grammar.specs.declared.draft.Draft.{Draft}
 
 abbrev pub state : Draft → State
-state d = record { phase = d.phase; labels = d.labels; words = d.words; trees = vec_items d.table.trees; nodes = vec_items d.table.nodes }
+state d = record { phase = d.phase; labels = d.header.labels; words = d.header.words; trees = vec_items d.table.trees; nodes = vec_items d.table.nodes }
 
 -- A field is judged as the draft and the answer after it say; want of memory apart.
 abbrev pub Judged : {X : Type 0} → Result State Refusal → Draft → Result X Stop → Type 0

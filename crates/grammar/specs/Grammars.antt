@@ -4,4 +4,4 @@ use Rattle.grammar.specs.declared.grammar.Grammar.{Grammar}
 use Rattle.grammar.specs.Holds.{holding}
 
 abbrev pub contents_in : Grammar → Contents
-contents_in g = holding g.labels g.words g.table
+contents_in g = holding g.header.labels g.header.words g.table

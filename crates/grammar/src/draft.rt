@@ -4,8 +4,9 @@ ghost use Rattle.format.specs.Judge.{judge_header, judge_tree, judge_adjoining, 
 ghost use Rattle.grammar.specs.Drafts.{state, Judged};
 
 use crate::table::Table;
-use fields::field::{pair, tag_of};
-use fields::stop::{Stop, refuse};
+use fields::field::pair;
+use fields::header::Header;
+use fields::stop::Stop;
 use fields::tree::read_tree;
 use format::fault::Rule;
 use format::node::Form;
@@ -16,8 +17,7 @@ use std::alloc::Global;
 #[derive(Drop)]
 pub struct Draft {
     pub phase: Phase,
-    pub labels: u8,
-    pub words: u16,
+    pub header: Header,
     pub table: Table,
 }
 
@@ -28,8 +28,7 @@ impl Draft {
     {
         Draft {
             phase: Phase::Start,
-            labels: 0,
-            words: 0,
+            header: Header::default(),
             table: Table::new(heap),
         }
     }
@@ -39,15 +38,17 @@ impl Draft {
         ensures { Judged (judge_header (state self.old) body.now) self.new result }
     {
         let [labels, high, low] = body else {
-            return Err(refuse(Rule::Body));
+            return Err(Rule::Body.into());
         };
-        let words = pair(*high, *low);
-        if *labels == 0 || words == 0 {
-            return Err(refuse(Rule::Body));
+        let header = Header {
+            labels: *labels,
+            words: pair(*high, *low),
+        };
+        if header.labels == 0 || header.words == 0 {
+            return Err(Rule::Body.into());
         }
         self.phase = Phase::Trees;
-        self.labels = *labels;
-        self.words = words;
+        self.header = header;
         Ok(())
     }
 
@@ -56,12 +57,12 @@ impl Draft {
         ensures { Judged (judge_tree (state self.old) form body.now) self.new result }
     {
         if body.is_empty() || body.len() % 4 != 0 {
-            return Err(refuse(Rule::Body));
+            return Err(Rule::Body.into());
         }
         if !self.table.has_room(body.len() / 4) {
-            return Err(refuse(Rule::Room));
+            return Err(Rule::Room.into());
         }
-        let planted = read_tree(heap, self.labels, self.words, form, body)?;
+        let planted = read_tree(heap, self.header, form, body)?;
         self.table.add_tree(form, &planted)?;
         Ok(())
     }
@@ -71,11 +72,9 @@ impl Draft {
         ensures { Judged (judge_adjoining (state self.old) body.now) self.new result }
     {
         let [tree, node, choice, list @ ..] = body else {
-            return Err(refuse(Rule::Body));
+            return Err(Rule::Body.into());
         };
-        if let Err(rule) = self.table.adjoin(*tree, *node, *choice, list) {
-            return Err(refuse(rule));
-        }
+        self.table.adjoin(*tree, *node, *choice, list)?;
         self.phase = Phase::Adjoinings;
         Ok(())
     }
@@ -84,15 +83,11 @@ impl Draft {
     pub(crate) fn field(&mut self, heap: Global, tag: u8, body: &[u8]) -> Result<(), Stop>
         ensures { Judged (judge_field (state self.old) tag body.now) self.new result }
     {
-        let Some(tag) = tag_of(tag) else {
-            return Err(refuse(Rule::Tag));
-        };
-        match (self.phase, tag) {
+        match (self.phase, Tag::try_from(tag)?) {
             (Phase::Start, Tag::Header) => self.header(body),
             (Phase::Trees, Tag::Tree(form)) => self.tree(heap, form, body),
-            (Phase::Trees, Tag::Adjoining) => self.adjoining(body),
-            (Phase::Adjoinings, Tag::Adjoining) => self.adjoining(body),
-            _ => Err(refuse(Rule::Order)),
+            (Phase::Trees | Phase::Adjoinings, Tag::Adjoining) => self.adjoining(body),
+            _ => Err(Rule::Order.into()),
         }
     }
 }

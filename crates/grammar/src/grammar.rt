@@ -4,32 +4,32 @@ ghost use Rattle.format.specs.Keeps.{Few, SomeTreeInitial, TreesWhole, Roots, En
 ghost use Rattle.grammar.specs.Holds.{holding};
 
 use crate::table::Table;
+use fields::header::Header;
 
 /// A grammar: how many labels and words it has, its trees and their nodes. It keeps every rule of the format.
 #[derive(Drop)]
 pub struct Grammar {
-    labels: u8,
-    words: u16,
+    header: Header,
     table: Table,
-    ghost rules: { ∥ Described (holding labels words table) ∥₁ },
-    ghost few: { Few (holding labels words table) },
-    ghost initial: { SomeTreeInitial (holding labels words table) },
-    ghost whole: { TreesWhole (holding labels words table) },
-    ghost roots: { Roots (holding labels words table) },
-    ghost ends: { Ends (holding labels words table) },
-    ghost subtrees: { Subtrees (holding labels words table) },
-    ghost children: { Children (holding labels words table) },
-    ghost within: { ChildWithin (holding labels words table) },
-    ghost inner: { InnerArity (holding labels words table) },
-    ghost leaves: { LeafArity (holding labels words table) },
-    ghost names: { Names (holding labels words table) },
-    ghost feet: { Feet (holding labels words table) },
-    ghost footing: { FootLabels (holding labels words table) },
-    ghost constraints: { Constraints (holding labels words table) },
-    ghost listed: { ListedThere (holding labels words table) },
-    ghost auxiliary: { ListedAuxiliary (holding labels words table) },
-    ghost agreeing: { ListedLabels (holding labels words table) },
-    ghost obligations: { Obligations (holding labels words table) },
+    ghost rules: { ∥ Described (holding header.labels header.words table) ∥₁ },
+    ghost few: { Few (holding header.labels header.words table) },
+    ghost initial: { SomeTreeInitial (holding header.labels header.words table) },
+    ghost whole: { TreesWhole (holding header.labels header.words table) },
+    ghost roots: { Roots (holding header.labels header.words table) },
+    ghost ends: { Ends (holding header.labels header.words table) },
+    ghost subtrees: { Subtrees (holding header.labels header.words table) },
+    ghost children: { Children (holding header.labels header.words table) },
+    ghost within: { ChildWithin (holding header.labels header.words table) },
+    ghost inner: { InnerArity (holding header.labels header.words table) },
+    ghost leaves: { LeafArity (holding header.labels header.words table) },
+    ghost names: { Names (holding header.labels header.words table) },
+    ghost feet: { Feet (holding header.labels header.words table) },
+    ghost footing: { FootLabels (holding header.labels header.words table) },
+    ghost constraints: { Constraints (holding header.labels header.words table) },
+    ghost listed: { ListedThere (holding header.labels header.words table) },
+    ghost auxiliary: { ListedAuxiliary (holding header.labels header.words table) },
+    ghost agreeing: { ListedLabels (holding header.labels header.words table) },
+    ghost obligations: { Obligations (holding header.labels header.words table) },
 }
 
 mod layout;

@@ -1,7 +1,8 @@
 -- Bytes written in hexadecimal digits.
 use Rattle.std.specs.Prelude.{◌≡◌, ℕ, zero, suc, ◌+◌, ◌-◌, ◌*◌, Bool, cond, ◌&&◌, List, [], ◌∷◌, ◌++◌, Some, None, Ok, Err, Option, Result, nat_le}
 use Rattle.readcases.specs.declared.case.CaseError.{CaseError}
-use Rattle.readcases.specs.declared.case.CaseError.TheVariants.{Malformed, OutOfMemory}
+use Rattle.readcases.specs.declared.case.CaseError.TheVariants.{Malformed, Unread}
+use Rattle.grammar.specs.declared.read.ReadError.TheVariants.{Faulty, OutOfMemory}
 
 abbrev pub between : ℕ → ℕ → ℕ → Bool
 between a b n = nat_le a n && nat_le n b
@@ -33,7 +34,8 @@ bytes_of (h ∷ (l ∷ ds)) = before (byte_of h l) (bytes_of ds)
 abbrev pub Decodes : {X : Type 0} → Option (List ℕ) → (X → List ℕ) → Result X CaseError → Type 0
 Decodes d items (Ok x) = d ≡ Some (items x)
 Decodes d items (Err Malformed) = d ≡ None
-Decodes d items (Err OutOfMemory) = Unit {0}
+Decodes d items (Err (Unread OutOfMemory)) = Unit {0}
+Decodes d items (Err (Unread (Faulty f))) = ⊥
 
 -- a list so many times
 abbrev pub copies : ℕ → List ℕ → List ℕ

@@ -21,10 +21,7 @@ fn digit(byte: u8) -> Option<u8>
 fn byte(high: u8, low: u8) -> Option<u8>
     ensures { result ≡ byte_of high low }
 {
-    match (digit(high), digit(low)) {
-        (Some(high), Some(low)) => Some(16 * high + low),
-        _ => None,
-    }
+    Some(16 * digit(high)? + digit(low)?)
 }
 
 /// The bytes that the digits give, two digits to a byte.
@@ -34,9 +31,7 @@ pub(crate) fn decode(heap: Global, digits: &[u8]) -> Result<Vec<u8>, CaseError>
     let mut bytes = Vec::new(heap);
     let mut rest = digits;
     while let [high, low, more @ ..] = rest {
-        let Some(byte) = byte(*high, *low) else {
-            return Err(CaseError::Malformed);
-        };
+        let byte = byte(*high, *low).ok_or(CaseError::Malformed)?;
         bytes.push(byte)?;
         rest = more;
     }

@@ -2,6 +2,7 @@
 //! tokens, each of hexadecimal digits, or of a number, `*` and digits that are repeated so often.
 #![tactic(auto)]
 
+use outcome::Outcome;
 use std::io;
 use std::io::{BufRead, BufReader};
 
@@ -14,7 +15,7 @@ fn main(rt: HostRuntime) -> io::Result<()> {
     for line in BufReader::new(heap, rt.stdin())?.lines(heap) {
         let line = line?;
         let (name, tokens) = case::parts(line.as_str());
-        let outcome = outcome::of_case(heap, tokens);
+        let outcome = Outcome(outcome::of_case(heap, tokens));
         println!(rt; "{name} {outcome}")?;
     }
     Ok(())

@@ -5,10 +5,8 @@
 #![tactic(auto)]
 
 use grammar::grammar::Grammar;
-use grammar::read::ReadError;
 use std::io;
 use std::io::Read;
-use summary::fault::FaultLine;
 
 mod line;
 mod sentence;
@@ -25,7 +23,6 @@ fn main(rt: HostRuntime) -> io::Result<()> {
     let words = sentence::first(heap, stream.words)?;
     match Grammar::read(heap, stream.grammar) {
         Ok(grammar) => show::sentence(&rt, &grammar, words.as_slice()),
-        Err(ReadError::Faulty(fault)) => rt.println(FaultLine(fault)),
-        Err(ReadError::OutOfMemory) => rt.println("out of memory"),
+        Err(error) => rt.println(error),
     }
 }

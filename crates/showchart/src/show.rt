@@ -1,5 +1,5 @@
 //! A chart on standard output.
-use crate::line::{ItemLine, verdict_name};
+use crate::line::ItemLine;
 use chart::chart::Chart;
 use chart::life::judge;
 use chart::refusal::Refusal;
@@ -13,6 +13,7 @@ use words::Row;
 const CAPACITY: usize = 2000;
 
 /// What stands where no item is held.
+// No Default: an item that no step gave means nothing, and only memory that no chart has filled is made of it.
 const BLANK: Item = Item {
     tree: 0,
     spot: Spot::Top,
@@ -24,32 +25,42 @@ const BLANK: Item = Item {
     origin: Origin::Start,
 };
 
-/// The chart of the words, worked until it rests or is full; or the number by which it is refused.
-pub(crate) fn sentence(rt: &HostRuntime, grammar: &Grammar, words: &[u16]) -> io::Result<()> {
-    let row = Row::new(words);
-    let memory = vec![in rt.alloc(); BLANK; CAPACITY]?;
-    if let Err(refusal) = judge(grammar, memory.as_slice(), &row) {
-        return show_refusal(rt, refusal);
-    }
-    let mut chart = Chart::make(grammar, memory, &row);
-    match chart.work(u64::MAX, &row) {
-        Ok((processed, held)) => show_chart(rt, &chart, processed, held),
-        Err(refusal) => show_refusal(rt, refusal),
-    }
+/// What is shown of a chart: the chart, worked, and how many of its items are processed and held.
+#[derive(Drop)]
+struct Shown<'g> {
+    chart: Chart<'g>,
+    processed: usize,
+    held: usize,
 }
 
-fn show_refusal(rt: &HostRuntime, refusal: Refusal) -> io::Result<()> {
-    let number = refusal.number();
-    println!(rt; "refused {number}")
+/// The chart of a row of words, worked until it rests or is full.
+fn worked<'g>(grammar: &'g Grammar, memory: Vec<Item>, row: &Row) -> Result<Shown<'g>, Refusal> {
+    judge(grammar, memory.as_slice(), row)?;
+    let mut chart = Chart::make(grammar, memory, row);
+    let (processed, held) = chart.work(u64::MAX, row)?;
+    Ok(Shown {
+        chart,
+        processed,
+        held,
+    })
+}
+
+/// Prints the chart of the words, or the number by which it is refused.
+pub(crate) fn sentence(rt: &HostRuntime, grammar: &Grammar, words: &[u16]) -> io::Result<()> {
+    let memory = vec![in rt.alloc(); BLANK; CAPACITY]?;
+    match worked(grammar, memory, &Row::new(words)) {
+        Ok(shown) => show_chart(rt, &shown),
+        Err(refusal) => rt.println(refusal),
+    }
 }
 
 /// Each item's line, and then the line of the verdict and the counts.
-fn show_chart(rt: &HostRuntime, chart: &Chart, processed: usize, held: usize) -> io::Result<()> {
-    for number in 0..held {
-        if let Ok(item) = chart.item(number) {
-            rt.println(ItemLine { number, item })?;
-        }
+fn show_chart(rt: &HostRuntime, shown: &Shown) -> io::Result<()> {
+    for (number, item) in shown.chart.items().iter().enumerate() {
+        let item = *item;
+        rt.println(ItemLine { number, item })?;
     }
-    let verdict = verdict_name(chart.verdict());
+    let verdict = shown.chart.verdict();
+    let (processed, held) = (shown.processed, shown.held);
     println!(rt; "{verdict}, {processed} processed, {held} held")
 }

@@ -8,11 +8,5 @@ use format::node::Node;
 pub(crate) fn depth(before: &[Node], number: usize) -> usize
     ensures { result ≡ reaching number before.now }
 {
-    let mut depth: usize = 0;
-    for node in before {
-        if number < node.end {
-            depth += 1;
-        }
-    }
-    depth
+    before.iter().filter(|node| number < node.end).count()
 }

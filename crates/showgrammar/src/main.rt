@@ -3,14 +3,11 @@
 #![tactic(auto)]
 
 use grammar::grammar::Grammar;
-use grammar::read::ReadError;
 use std::io;
 use std::io::Read;
-use summary::fault::FaultLine;
 
 mod depth;
 mod show;
-mod text;
 
 fn main(rt: HostRuntime) -> io::Result<()> {
     let heap = rt.alloc();
@@ -18,7 +15,6 @@ fn main(rt: HostRuntime) -> io::Result<()> {
     rt.stdin().read_to_end(&mut bytes)?;
     match Grammar::read(heap, bytes.as_slice()) {
         Ok(grammar) => show::grammar(&rt, &grammar),
-        Err(ReadError::Faulty(fault)) => rt.println(FaultLine(fault)),
-        Err(ReadError::OutOfMemory) => rt.println("out of memory"),
+        Err(error) => rt.println(error),
     }
 }

@@ -1,6 +1,5 @@
 //! A grammar on standard output.
 use crate::depth::depth;
-use crate::text::{ConstraintText, KindText, form_name};
 use format::node::{Node, Tree};
 use grammar::grammar::Grammar;
 use std::io;
@@ -13,7 +12,7 @@ pub(crate) fn grammar(rt: &HostRuntime, grammar: &Grammar) -> io::Result<()> {
         words,
         trees,
         nodes,
-    } = Counts::of(grammar);
+    } = Counts::from(grammar);
     println!(rt; "labels {labels}, words {words}, trees {trees}, nodes {nodes}")?;
     for (number, tree) in (0..=u8::MAX).zip(grammar.trees()) {
         show_tree(rt, number, tree, grammar.nodes(number))?;
@@ -23,11 +22,11 @@ pub(crate) fn grammar(rt: &HostRuntime, grammar: &Grammar) -> io::Result<()> {
 
 /// A tree's line, and then its nodes.
 fn show_tree(rt: &HostRuntime, number: u8, tree: &Tree, nodes: &[Node]) -> io::Result<()> {
-    let form = form_name(tree.form);
+    let form = tree.form;
     let label = tree.label;
     println!(rt; "tree {number}: {form}, label {label}")?;
     for (number, node) in nodes.iter().enumerate() {
-        indent(rt, depth(&nodes[0..number], number))?;
+        indent(rt, depth(&nodes[..number], number))?;
         show_node(rt, number, node)?;
     }
     Ok(())
@@ -43,12 +42,9 @@ fn indent(rt: &HostRuntime, depth: usize) -> io::Result<()> {
 
 /// A node's line past its indentation.
 fn show_node(rt: &HostRuntime, number: usize, node: &Node) -> io::Result<()> {
-    let kind = KindText(node.kind);
+    let kind = node.kind;
     match &node.constraint {
-        Some(constraint) => {
-            let constraint = ConstraintText(constraint);
-            println!(rt; "{number} {kind}, {constraint}")
-        }
+        Some(constraint) => println!(rt; "{number} {kind}, {constraint}"),
         None => println!(rt; "{number} {kind}"),
     }
 }

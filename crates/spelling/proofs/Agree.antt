@@ -13,14 +13,14 @@ use Rattle.format.specs.Judge.{adjoinable}
 use Rattle.format.specs.Keeps.{nodes_in, node_in, taken_trees, any, is_inner, Keeps}
 use Rattle.format.specs.Questions.{children_of, after_dot}
 use Rattle.steps.specs.declared.item.Item.{Item}
-use Rattle.derivation.specs.Derivations.{Derivation, done, stay, adjoin, as_children, below_kind, below, tree_row}
-use Rattle.derivation.specs.Walks.{Event, choice, is_choice, met_kind, met, below_next, walk}
+use Rattle.derivation.specs.Derivations.{Derivation, done, stay, adjoin, as_children, below_kind, below}
+use Rattle.derivation.specs.Walks.{Event, choice, is_choice, met_kind, walk}
 use Rattle.derivation.specs.Readings.{◌beside◌, derivation_of}
 use Rattle.derivation.proofs.Dots.{dot_past}
 use Rattle.walk.specs.declared.choice.Choice.{Choice}
 use Rattle.walk.specs.declared.choice.Choice.TheVariants.{Stay, Adjoin}
 use Rattle.spelling.specs.Tours.{from_node, adjoined_events}
-use Rattle.spelling.proofs.Rows.{clash, reach, reach_++, begin, Follows, dot_after, children_reach, leaf_children, node_tour, row_tour, row_++, children_tour, row_same, inside_same, node_step}
+use Rattle.spelling.proofs.Rows.{reach, reach_++, begin, Follows, dot_after, children_reach, leaf_children, node_tour, row_tour, row_++, children_tour, row_same, inside_same, node_step}
 
 -- Derivations of rows ------------------------------------------------------------------------------------------------------------
 
@@ -38,20 +38,11 @@ spine_beside (adjoin β r a f) g = let r = spine_beside f g in omega arith
 module _ (c : Contents) (t : ℕ) (h : List Event) where
   pub walk_beside : (f g : Derivation) (ks ls : List Next) → spine f ≡ length ks → walk c t (ks ++ ls) (f beside g) h ≡ walk c t ks f h ++ walk c t ls g h
   walk_beside done g [] ls e = refl
-  walk_beside done g (k ∷ ks) ls e = clash (omega arith)
-  walk_beside (stay a f) g [] ls e = clash (omega arith)
-  walk_beside (stay a f) g (k ∷ ks) ls e =
-      let A = met c t k h in
-      let B = walk c t (below_next c t k) a h in
-      let X = walk c t ks f h in
-      let Y = walk c t ls g h in
-      ap (λ (v : List Event). A ++ (B ++ v)) (walk_beside f g ks ls (omega arith)) ∙ sym (append_assoc A (B ++ X) Y ∙ ap (λ (v : List Event). A ++ v) (append_assoc B X Y))
-  walk_beside (adjoin β r a f) g [] ls e = clash (omega arith)
-  walk_beside (adjoin β r a f) g (k ∷ ks) ls e =
-      let B = walk c β (tree_row c β) r (walk c t (below_next c t k) a h) in
-      let X = walk c t ks f h in
-      let Y = walk c t ls g h in
-      ap (λ (v : List Event). choice (suc β) ∷ (B ++ v)) (walk_beside f g ks ls (omega arith)) ∙ ap (λ (v : List Event). choice (suc β) ∷ v) (sym (append_assoc B X Y))
+  walk_beside done g (k ∷ ks) ls e = absurd (omega arith)
+  walk_beside (stay a f) g [] ls e = absurd (omega arith)
+  walk_beside (stay a f) g (k ∷ ks) ls e = rw (walk_beside f g ks ls (omega arith), append_assoc, append_assoc) refl
+  walk_beside (adjoin β r a f) g [] ls e = absurd (omega arith)
+  walk_beside (adjoin β r a f) g (k ∷ ks) ls e = rw (walk_beside f g ks ls (omega arith), append_assoc) refl
 
 -- What a node adds to a tour -----------------------------------------------------------------------------------------------------
 
@@ -66,37 +57,34 @@ module _ (D : ℕ → ℕ → List Event → List Event) (W R h : List Event) wh
   plain_events : (k : Kind) (b : Bool) → adjoinable k ≡ true → ContentIs k W R h → met_kind k b ++ (W ++ []) ≡ from_node D h R R [] (Some Stay) k b
   plain_events (Inner l) true e i = let z = append-nil W in cc
   plain_events (Inner l) false e i = append-nil W ∙ i
-  plain_events (Word w) b e i = clash cc
-  plain_events Empty b e i = clash cc
+  plain_events (Word w) b e i = absurd (cc)
+  plain_events Empty b e i = absurd (cc)
   plain_events (Foot l) true e i = let z = append-nil W in let y = append-nil h in let u = i.0 in let v = i.1 in cc
   plain_events (Foot l) false e i = let z = append-nil W in let y = append-nil h in let u = i.0 in let v = i.1 in cc
 
   adjoined_here : (β σ : ℕ) (k : Kind) → adjoinable k ≡ true → ContentIs k W R h
       → ◌≡◌ {A = List Event} (choice (suc β) ∷ (D β σ W ++ [])) (from_node D h R R [] (Some (Adjoin β σ)) k true)
   adjoined_here β σ (Inner l) e i = ap (λ (v : List Event). choice (suc β) ∷ (D β σ v ++ [])) i
-  adjoined_here β σ (Word w) e i = clash cc
-  adjoined_here β σ Empty e i = clash cc
+  adjoined_here β σ (Word w) e i = absurd (cc)
+  adjoined_here β σ Empty e i = absurd (cc)
   adjoined_here β σ (Foot l) e i = ap (λ (v : List Event). choice (suc β) ∷ (D β σ v ++ [])) i.0
 
 leaf_events : (D : ℕ → ℕ → List Event → List Event) (h : List Event) (o : Option Choice) (k : Kind) (b : Bool) → adjoinable k ≡ false → met_kind k b ++ [] ≡ from_node D h [] [] [] o k b
-leaf_events D h o (Inner l) b e = clash cc
+leaf_events D h o (Inner l) b e = absurd (cc)
 leaf_events D h o (Word w) b e = refl
 leaf_events D h o Empty b e = refl
-leaf_events D h o (Foot l) b e = clash cc
+leaf_events D h o (Foot l) b e = absurd (cc)
 
 not_inner : (k : Kind) → adjoinable k ≡ false → is_inner k ≡ false
-not_inner (Inner l) e = clash cc
+not_inner (Inner l) e = absurd (cc)
 not_inner (Word w) e = refl
 not_inner Empty e = refl
-not_inner (Foot l) e = clash cc
-
-foot_inner : (k : Kind) (l : ℕ) → k ≡ Foot l → is_inner k ≡ false
-foot_inner k l e = ap is_inner e
+not_inner (Foot l) e = absurd (cc)
 
 pub any_some : (xs : List Bool) (n : ℕ) → get_or xs n false ≡ true → any xs ≡ true
-any_some [] n e = clash cc
+any_some [] n e = absurd (cc)
 any_some (true ∷ xs) n e = refl
-any_some (false ∷ xs) zero e = clash cc
+any_some (false ∷ xs) zero e = absurd (cc)
 any_some (false ∷ xs) (suc n) e = any_some xs n e
 
 no_constraint : (o : Option Constraint) → (is_some o ≡ true → ⊥) → any (taken_trees o) ≡ false
@@ -146,7 +134,7 @@ module _ (c : Contents) (K : Keeps c) (its : List Item) (t : ℕ) where
 
   -- Nothing before the dot.
   pub fresh_part : (C : ℕ → Option Choice) (a : ℕ) → Part C done a []
-  fresh_part C a = record { long = refl; walks = λ h. refl; told = λ i x y z. clash (omega arith) }
+  fresh_part C a = record { long = refl; walks = λ h. refl; told = λ i x y z. absurd (omega arith) }
 
   -- A leaf.
   pub leaf_sibling : (C : ℕ → Option Choice) (m : ℕ) → m < N → adjoinable (node_in c t m).kind ≡ false → Sibling C (stay done done) m
@@ -155,14 +143,12 @@ module _ (c : Contents) (K : Keeps c) (its : List Item) (t : ℕ) where
       record {
         single = refl;
         walks = λ h.
-            leaf_events D h (C m) (node_in c t m).kind (is_choice c t m) e
-            ∙ (ap (λ (r : List Event). from_node D h r r [] (C m) (node_in c t m).kind (is_choice c t m)) (sym (ap (λ (ns : List ℕ). row_tour c K t D h C (as_children ns)) z.0))
-            ∙ sym (node_step c K t D h C m l));
+            rw (node_step c K t D h C m l, z.0) (leaf_events D h (C m) (node_in c t m).kind (is_choice c t m) e);
         told = λ i a b x.
             let o : m ≡ i = let y = z.1 in omega arith in
-            let n = no_constraint (node_in c t m).constraint (λ u. (let w : ◌≡◌ {A = ℕ} 0 1 = let v = K.constraints t m u in cc in omega arith)) in
+            let n = no_constraint (node_in c t m).constraint (λ u. (let v = K.constraints t m u in cc)) in
             let p = subst (λ (v : ℕ). is_choice c t v ≡ true) (sym o) x in
-            clash cc;
+            absurd (cc);
       }
 
   -- A node with a content: y's part of the row below it, by picks that agree with C inside its subtree.
@@ -178,21 +164,21 @@ module _ (c : Contents) (K : Keeps c) (its : List Item) (t : ℕ) where
         ∙ (sym (inside_same c K t D h C C' m N l same) ∙ children_tour c K t D h C m N l (omega arith))
 
     content_is : (h : List Event) (k : Kind) → (node_in c t m).kind ≡ k → ContentIs k (walk c t (below c t (At m)) f h) (inside h) h
-    content_is h (Inner a) e = P.walks h ∙ (ap (λ (x : Kind). row_tour c K t D h C' (below_kind x (children_of c t m))) e ∙ inside_is h)
+    content_is h (Inner a) e = rw (P.walks h, e) (inside_is h)
     content_is h (Word a) e = tt
     content_is h Empty e = tt
     content_is h (Foot a) e = (
-      P.walks h ∙ (ap (λ (x : Kind). row_tour c K t D h C' (below_kind x (children_of c t m))) e ∙ append-nil h),
-      ap (λ (ns : List ℕ). row_tour c K t D h C (as_children ns)) (leaf_children c K t m l (foot_inner (node_in c t m).kind a e)).0,
+      rw (P.walks h, e) (append-nil h),
+      rw (leaf_children c K t m l (ap is_inner e)).0 refl,
     )
 
     -- a content below the node is told
     kind_told : (k : Kind) → (node_in c t m).kind ≡ k → adjoinable k ≡ true → (i : ℕ) → m < i → i < (node_in c t m).end → i < reach c t (suc m) (below c t (At m))
     kind_told (Inner a) e d i u v =
         subst (λ (x : ℕ). i < x) (sym (ap (λ (x : Kind). reach c t (suc m) (below_kind x (children_of c t m))) e ∙ children_reach c K t m l)) v
-    kind_told (Word a) e d i u v = clash cc
-    kind_told Empty e d i u v = clash cc
-    kind_told (Foot a) e d i u v = let z = (leaf_children c K t m l (foot_inner (node_in c t m).kind a e)).1 in clash (omega arith)
+    kind_told (Word a) e d i u v = absurd (cc)
+    kind_told Empty e d i u v = absurd (cc)
+    kind_told (Foot a) e d i u v = let z = (leaf_children c K t m l (ap is_inner e)).1 in absurd (omega arith)
 
     told_inside : adjoinable (node_in c t m).kind ≡ true → (x : Choice) → C m ≡ Some x → (i : ℕ) → m ≤ i → i < (node_in c t m).end → is_choice c t i ≡ true
         → (y : Choice) × (C i ≡ Some y)
@@ -208,8 +194,8 @@ module _ (c : Contents) (K : Keeps c) (its : List Item) (t : ℕ) where
         record {
           single = refl;
           walks = λ h.
-              plain_events D (walk c t (below c t (At m)) f h) (inside h) h (node_in c t m).kind (is_choice c t m) d (content_is h (node_in c t m).kind refl)
-              ∙ (ap (λ (o : Option Choice). from_node D h (inside h) (inside h) [] o (node_in c t m).kind (is_choice c t m)) (sym e) ∙ sym (node_step c K t D h C m l));
+              rw (node_step c K t D h C m l, e)
+              (plain_events D (walk c t (below c t (At m)) f h) (inside h) h (node_in c t m).kind (is_choice c t m) d (content_is h (node_in c t m).kind refl));
           told = told_inside d Stay e;
         }
 
@@ -219,8 +205,7 @@ module _ (c : Contents) (K : Keeps c) (its : List Item) (t : ℕ) where
         record {
           single = refl;
           walks = λ h.
-              adjoined_here D (walk c t (below c t (At m)) f h) (inside h) h β σ (node_in c t m).kind d (content_is h (node_in c t m).kind refl)
-              ∙ (ap (from_node D h (inside h) (inside h) [] (Some (Adjoin β σ)) (node_in c t m).kind) (sym x)
-              ∙ (ap (λ (o : Option Choice). from_node D h (inside h) (inside h) [] o (node_in c t m).kind (is_choice c t m)) (sym e) ∙ sym (node_step c K t D h C m l)));
+              rw (node_step c K t D h C m l, e, x)
+              (adjoined_here D (walk c t (below c t (At m)) f h) (inside h) h β σ (node_in c t m).kind d (content_is h (node_in c t m).kind refl));
           told = told_inside d (Adjoin β σ) e;
         }

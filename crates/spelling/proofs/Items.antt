@@ -1,5 +1,5 @@
 -- Each item of a list whose items came by their steps: its picks are those of the derivation read off it.
-use Rattle.std.proofs.Common.{◌≡◌, ℕ, zero, suc, ◌+◌, ◌<◌, Bool, true, false, cond, not, eqb, ltb, List, [], ◌∷◌, length, take, Some, Option, sym, refl, ap, ◌∙◌, subst, add-one, arith, ltb-true, le-ltb, lt-ltb, eq-eqb, eqb-true}
+use Rattle.std.proofs.Common.{◌≡◌, ℕ, zero, suc, ◌+◌, ◌<◌, Bool, true, false, cond, not, eqb, ltb, List, length, take, Some, Option, refl, ap, ◌∙◌, subst, add-one, arith, ltb-true, le-ltb, lt-ltb, eq-eqb, eqb-true}
 use Rattle.format.specs.declared.spot.Spot.{Spot}
 use Rattle.format.specs.declared.spot.Spot.TheVariants.{Top, At}
 use Rattle.format.specs.declared.spot.Next.{Next}
@@ -22,7 +22,7 @@ use Rattle.walk.specs.declared.choice.Choice.{Choice}
 use Rattle.walk.specs.declared.choice.Choice.TheVariants.{Stay, Adjoin}
 use Rattle.spelling.specs.Picks.{number_next, node_after, around, pick_by, pick_at}
 use Rattle.spelling.proofs.Unwound.{pick_is, read_is}
-use Rattle.spelling.proofs.Rows.{clash, begin, dot_after}
+use Rattle.spelling.proofs.Rows.{begin, dot_after}
 use Rattle.spelling.proofs.Agree.{any_some, Part, Sibling, past, fresh_part, leaf_sibling, plain_sibling, adjoined_sibling}
 
 -- what a moved item shares with the one before
@@ -45,16 +45,16 @@ module _ (c : Contents) (K : Keeps c) (its : List Item) (C : Came c its) where
 
   -- Picks around a node
   around_before : (F : ℕ → Option Choice) (n m : ℕ) (o : Option Choice) (a b : ℕ) → n < m → around F n m o a b ≡ F a
-  around_before F n m o a b h = ap (λ (x : Bool). cond x (F a) (cond (eqb n m) o (F b))) (lt-ltb n m h)
+  around_before F n m o a b h = rw (lt-ltb n m h) refl
 
   around_here : (F : ℕ → Option Choice) (m : ℕ) (o : Option Choice) (a b : ℕ) → around F m m o a b ≡ o
-  around_here F m o a b = ap (λ (x : Bool). cond x (F a) (cond (eqb m m) o (F b))) (le-ltb m m (omega arith)) ∙ ap (λ (x : Bool). cond x o (F b)) (eq-eqb m m refl)
+  around_here F m o a b = rw (le-ltb m m (omega arith), eq-eqb m m refl) refl
 
   around_below : (F : ℕ → Option Choice) (n m : ℕ) (o : Option Choice) (a b : ℕ) → m < n → around F n m o a b ≡ F b
   around_below F n m o a b h = ap (λ (x : Bool). cond x (F a) (cond (eqb n m) o (F b))) (le-ltb n m (omega arith)) ∙ by_test (eqb n m) refl
     where
       by_test : (x : Bool) → eqb n m ≡ x → cond x o (F b) ≡ F b
-      by_test true e = let z = eqb-true n m e in clash (omega arith)
+      by_test true e = let z = eqb-true n m e in absurd (omega arith)
       by_test false e = refl
 
   -- item k is item a with one more node m before its dot
@@ -65,10 +65,7 @@ module _ (c : Contents) (K : Keeps c) (its : List Item) (C : Came c its) where
       let y = item_at its k in
       let q = moved_facts x y e in
       let r = past c K its x.tree x.spot x.dot m f (picks a) (picks k) same (derivation_of its a) g A S in
-      subst (λ (v : ℕ). Part c K its v (picks k) (derivation_of its k) (begin y.spot) (take y.dot (below c v y.spot))) (sym q.0)
-      (subst (λ (v : Spot). Part c K its x.tree (picks k) (derivation_of its k) (begin v) (take y.dot (below c x.tree v))) (sym q.1)
-      (subst (λ (v : ℕ). Part c K its x.tree (picks k) (derivation_of its k) (begin x.spot) (take v (below c x.tree x.spot))) (sym q.2)
-      (subst (λ (v : Derivation). Part c K its x.tree (picks k) v (begin x.spot) (take (suc x.dot) (below c x.tree x.spot))) (sym d) r)))
+      rw (q.0, q.1, q.2, d) r
 
   -- an item that is finished at node m of tree t
   pub record Ended (y : Item) (t m : ℕ) : Type 0 where
@@ -88,8 +85,7 @@ module _ (c : Contents) (K : Keeps c) (its : List Item) (C : Came c its) where
   whole_part b t m E A =
       let y = item_at its b in
       subst (λ (v : Spot). Part c K its t (picks b) (derivation_of its b) (begin v) (below c t v)) E.spot
-      (subst (λ (v : ℕ). Part c K its v (picks b) (derivation_of its b) (begin y.spot) (below c v y.spot)) E.tree
-      (subst (λ (ks : List Next). Part c K its y.tree (picks b) (derivation_of its b) (begin y.spot) ks) (dot_last c y.tree y.spot y.dot E.last) A))
+      (rw (← E.tree, ← dot_last c y.tree y.spot y.dot E.last) A)
 
   module _ (k : ℕ) (l : k < length its) (ih : (a : ℕ) → a < k → Agrees a) where
     abbrev x : Item
@@ -104,19 +100,19 @@ module _ (c : Contents) (K : Keeps c) (its : List Item) (C : Came c its) where
     -- nothing before the dot
     fresh_item : (o : Origin) → x.origin ≡ o → by_origin (derivation_of its) its o ≡ done → eqb x.dot 0 ≡ true → Agrees k
     fresh_item o e d z =
-        subst (λ (v : ℕ). Part c K its x.tree (picks k) (derivation_of its k) (begin x.spot) (take v (below c x.tree x.spot))) (sym (eqb-true x.dot 0 z))
-        (subst (λ (v : Derivation). Part c K its x.tree (picks k) v (begin x.spot) []) (sym (read_by o e ∙ d)) (fresh_part c K its x.tree (picks k) (begin x.spot)))
+        let n = read_by o e ∙ d in
+        rw (eqb-true x.dot 0 z, n) (fresh_part c K its x.tree (picks k) (begin x.spot))
 
     scan_item : (a : ℕ) → x.origin ≡ Scan a → a < k → moves (item_at its a) x ≡ true → (nx : Next) → after c (item_at its a) ≡ nx → leaf_next c (item_at its a).tree nx ≡ true → Agrees k
-    scan_item a o u e End f g = clash cc
-    scan_item a o u e Bottom f g = clash cc
+    scan_item a o u e End f g = absurd (cc)
+    scan_item a o u e Bottom f g = absurd (cc)
     scan_item a o u e (Child m) f g =
         let t = (item_at its a).tree in
         moved_part k a m (stay done done) e f (read_by (Scan a) o) (λ i v. picks_by (Scan a) o i) (ih a u)
         (leaf_sibling c K its t (picks k) m (dot_after c K t (item_at its a).spot (item_at its a).dot m f).0 (not_true (adjoinable (node_in c t m).kind) g))
       where
         not_true : (b : Bool) → not b ≡ true → b ≡ false
-        not_true true z = clash cc
+        not_true true z = absurd (cc)
         not_true false z = refl
 
     -- a node m with content, by an item with the picks around m
@@ -154,16 +150,16 @@ module _ (c : Contents) (K : Keeps c) (its : List Item) (C : Came c its) where
 
     complete_item : (a b : ℕ) → x.origin ≡ Complete a b → a < k → b < k → moves (item_at its a) x ≡ true → (nx : Next) → after c (item_at its a) ≡ nx
         → plain_next c (item_at its a).tree (item_at its b) nx ≡ true → Agrees k
-    complete_item a b o u v e End f g = clash cc
-    complete_item a b o u v e Bottom f g = clash cc
+    complete_item a b o u v e End f g = absurd (cc)
+    complete_item a b o u v e Bottom f g = absurd (cc)
     complete_item a b o u v e (Child m) f g =
         let s = and_split (stays c (item_at its a).tree m) _ g in
         plain_item (Complete a b) o a b m u v (Some Stay) f (ended_facts (item_at its b) (item_at its a).tree m s.1) (λ n. refl) e refl refl
 
     adjoin_item : (a b d : ℕ) → x.origin ≡ AdjoinComplete a b d → b < k → d < k → moves (item_at its d) x ≡ true → (nx : Next) → after c (item_at its d) ≡ nx
         → adjoined_next c (item_at its d).tree (item_at its a) (item_at its b) nx ≡ true → Agrees k
-    adjoin_item a b d o u v e End f g = clash cc
-    adjoin_item a b d o u v e Bottom f g = clash cc
+    adjoin_item a b d o u v e End f g = absurd (cc)
+    adjoin_item a b d o u v e Bottom f g = absurd (cc)
     adjoin_item a b d o u v e (Child m) f g =
         let t = (item_at its d).tree in
         let s = and_split (listed c t m (item_at its a).tree) _ g in
@@ -172,14 +168,11 @@ module _ (c : Contents) (K : Keeps c) (its : List Item) (C : Came c its) where
         (item_at its a).tree a e refl (any_some (taken_trees (node_in c t m).constraint) (item_at its a).tree s.0) refl
 
     foot_item : (a b : ℕ) → x.origin ≡ FootComplete a b → (s : Spot) → x.spot ≡ s → foot_spot c x.tree s ≡ true → eqb x.dot 1 ≡ true → Agrees k
-    foot_item a b o Top e f g = clash cc
+    foot_item a b o Top e f g = absurd (cc)
     foot_item a b o (At n) e f g =
         let z = foot_true (node_in c x.tree n).kind f in
-        subst (λ (v : Spot). Part c K its x.tree (picks k) (derivation_of its k) (begin v) (take x.dot (below c x.tree v))) (sym e)
-        (subst (λ (v : ℕ). Part c K its x.tree (picks k) (derivation_of its k) (suc n) (take v (below c x.tree (At n)))) (sym (eqb-true x.dot 1 g))
-        (subst (λ (v : List Next). Part c K its x.tree (picks k) (derivation_of its k) (suc n) (take 1 v)) (sym (foot_row c x.tree n z.0 z.1))
-        (subst (λ (v : Derivation). Part c K its x.tree (picks k) v (suc n) (Bottom ∷ [])) (sym (read_by (FootComplete a b) o))
-        (record { long = refl; walks = λ h. refl; told = λ i p q r. clash (omega arith) }))))
+        rw (e, eqb-true x.dot 1 g, foot_row c x.tree n z.0 z.1, read_by (FootComplete a b) o)
+        (record { long = refl; walks = λ h. refl; told = λ i p q r. absurd (omega arith) })
 
     by_step : (o : Origin) → x.origin ≡ o → came_by c (item_at its) k x o ≡ true → Agrees k
     by_step Start e h = fresh_item Start e refl h
@@ -207,7 +200,7 @@ module _ (c : Contents) (K : Keeps c) (its : List Item) (C : Came c its) where
 
   agree_below : (b k : ℕ) → k < b → k < length its → Agrees k
   unfolding came
-  agree_below zero k h l = clash (omega arith)
+  agree_below zero k h l = absurd (omega arith)
   agree_below (suc b) k h l = by_step k l (λ a u. agree_below b a (omega arith) (omega arith)) (item_at its k).origin refl (C k l)
 
   pub agree : (k : ℕ) → k < length its → Agrees k

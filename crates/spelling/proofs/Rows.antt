@@ -43,9 +43,6 @@ abbrev pub begin : Spot → ℕ
 begin Top = 0
 begin (At n) = suc n
 
-pub clash : {X : Type 0} → ◌≡◌ {A = ℕ} 0 1 → X
-clash z = absurd (omega arith)
-
 module _ (c : Contents) (K : Keeps c) (t : ℕ) where
   abbrev vs : List Node
   vs = nodes_in c t
@@ -69,7 +66,7 @@ module _ (c : Contents) (K : Keeps c) (t : ℕ) where
 
   roots_before : (k i d m : ℕ) → There k i → nth (roots_from vs k i) d ≡ Some m
       → (m < N) × (i ≤ m) × Before c t m (take d (as_children (roots_from vs k i))) × (reach c t i (take d (as_children (roots_from vs k i))) ≡ m)
-  roots_before zero i d m h e = clash cc
+  roots_before zero i d m h e = absurd (cc)
   roots_before (suc k) i zero m h e =
       let z : i ≡ m = cc in
       (subst (λ (x : ℕ). x < N) z (h 0 (omega arith)), omega arith, none, z)
@@ -86,7 +83,7 @@ module _ (c : Contents) (K : Keeps c) (t : ℕ) where
   no_children n h = ap (λ (v : Node). v.children) (get_or-eq_default vs no_node {n = n} h)
 
   some_child : (o : Option ℕ) (m : ℕ) → child_next o ≡ Child m → o ≡ Some m
-  some_child None m e = clash cc
+  some_child None m e = absurd (cc)
   some_child (Some x) m e = cc
 
   -- node m is there, and the row before it ends where it begins
@@ -101,20 +98,20 @@ module _ (c : Contents) (K : Keeps c) (t : ℕ) where
       by_place (no h) =
           let z : children_of c t n ≡ [] = ap (λ (k : ℕ). roots_from vs k (suc n)) (no_children n (omega arith)) in
           let y : child_next (nth {X = ℕ} [] d) ≡ Child m = ap (λ (xs : List ℕ). child_next (nth xs d)) (sym z) ∙ e in
-          clash cc
+          absurd (cc)
 
   -- what comes after a dot is there, and the row before the dot ends before it
   kind_after : (k : Kind) (n d m : ℕ) → next_in k (children_of c t n) d ≡ Child m → Follows (suc n) m (take d (below_kind k (children_of c t n)))
   kind_after (Inner l) n d m e = inner_after n d m e
-  kind_after (Word w) n d m e = clash cc
-  kind_after Empty n d m e = clash cc
-  kind_after (Foot l) n zero m e = clash cc
-  kind_after (Foot l) n (suc d) m e = clash cc
+  kind_after (Word w) n d m e = absurd (cc)
+  kind_after Empty n d m e = absurd (cc)
+  kind_after (Foot l) n zero m e = absurd (cc)
+  kind_after (Foot l) n (suc d) m e = absurd (cc)
 
   top_after : (ws : List Node) (d m : ℕ) → ws ≡ vs → next_at_top ws d ≡ Child m → Follows 0 m (take d (below_top ws))
-  top_after [] d m w e = clash cc
+  top_after [] d m w e = absurd (cc)
   top_after (v ∷ ws) zero m w e = let z : 0 ≡ m = cc in let l = ap length w in (omega arith, none, z)
-  top_after (v ∷ ws) (suc d) m w e = clash cc
+  top_after (v ∷ ws) (suc d) m w e = absurd (cc)
 
   pub dot_after : (s : Spot) (d m : ℕ) → after_dot c t s d ≡ Child m → Follows (begin s) m (take d (below c t s))
   dot_after Top d m e = top_after vs d m refl e
@@ -151,8 +148,8 @@ module _ (c : Contents) (K : Keeps c) (t : ℕ) where
     pub row_++ : (C : ℕ → Option Choice) (ks ls : List Next) → row_tour C (ks ++ ls) ≡ row_tour C ks ++ row_tour C ls
     row_++ C [] ls = refl
     row_++ C (End ∷ ks) ls = row_++ C ks ls
-    row_++ C (Bottom ∷ ks) ls = ap (λ (v : List Event). h ++ v) (row_++ C ks ls) ∙ sym (append_assoc h (row_tour C ks) (row_tour C ls))
-    row_++ C (Child n ∷ ks) ls = ap (λ (v : List Event). node_tour C n ++ v) (row_++ C ks ls) ∙ sym (append_assoc (node_tour C n) (row_tour C ks) (row_tour C ls))
+    row_++ C (Bottom ∷ ks) ls = rw (row_++ C ks ls, append_assoc) refl
+    row_++ C (Child n ∷ ks) ls = rw (row_++ C ks ls, append_assoc) refl
 
     -- a subtree has whole subtrees in it
     nested : (n : ℕ) → n < N → (i : ℕ) → n ≤ i → i < (node_in c t n).end → (node_in c t i).end ≤ (node_in c t n).end
@@ -185,9 +182,8 @@ module _ (c : Contents) (K : Keeps c) (t : ℕ) where
 
     pub row_same : (C C' : ℕ → Option Choice) (m : ℕ) → ((i : ℕ) → i < m → C i ≡ C' i) → {ks : List Next} → Before c t m ks → row_tour C ks ≡ row_tour C' ks
     row_same C C' m s none = refl
-    row_same C C' m s (bottom a) = ap (λ (v : List Event). h ++ v) (row_same C C' m s a)
-    row_same C C' m s (child {n = n} {ks = ks} l e a) =
-        ap (λ (v : List Event). v ++ row_tour C ks) (node_same C C' m s n l e) ∙ ap (λ (v : List Event). node_tour C' n ++ v) (row_same C C' m s a)
+    row_same C C' m s (bottom a) = rw (row_same C C' m s a) refl
+    row_same C C' m s (child {n = n} {ks = ks} l e a) = rw (node_same C C' m s n l e, row_same C C' m s a) refl
 
     -- The content of a node, by picks that agree inside its subtree.
     pub inside_same : (C C' : ℕ → Option Choice) (n f : ℕ) → n < N → ((i : ℕ) → n < i → i < (node_in c t n).end → C i ≡ C' i)

@@ -1,5 +1,5 @@
 -- Tours through the nodes of a tree: how many turns they are given does not matter, only the picks on the way count, and they split where a subtree ends.
-use Rattle.std.proofs.Common.{◌≡◌, ℕ, zero, suc, ◌+◌, ◌<◌, ◌≤◌, Bool, true, false, cond, List, [], ◌∷◌, ◌++◌, length, Some, None, Option, sym, refl, ap, ◌∙◌, append_assoc, arith, le-ltb, lt-ltb}
+use Rattle.std.proofs.Common.{◌≡◌, ℕ, zero, suc, ◌+◌, ◌<◌, ◌≤◌, Bool, true, false, List, [], ◌++◌, length, Some, None, Option, sym, refl, ap, ◌∙◌, append_assoc, arith, le-ltb, lt-ltb}
 use native.Mathlib.Decide.{dec_lt}
 use lib.ListN.{get_or-eq_default}
 use Rattle.format.specs.declared.node.Kind.{Kind}
@@ -7,7 +7,7 @@ use Rattle.format.specs.declared.node.Kind.TheVariants.{Inner, Word, Empty, Foot
 use Rattle.format.specs.declared.node.Node.{Node}
 use Rattle.format.specs.Parts.{Contents, no_node}
 use Rattle.format.specs.Keeps.{nodes_in, node_in, taken_trees, any, Ends, Subtrees}
-use Rattle.derivation.specs.Walks.{Event, choice, is_choice}
+use Rattle.derivation.specs.Walks.{Event, is_choice}
 use Rattle.walk.specs.declared.choice.Choice.{Choice}
 use Rattle.walk.specs.declared.choice.Choice.TheVariants.{Stay, Adjoin}
 use Rattle.spelling.specs.Tours.{picked, from_node, tour}
@@ -21,8 +21,7 @@ choice_there c t n e = by_place (dec_lt n (length (nodes_in c t)))
     by_place (no h) =
         let d = get_or-eq_default (nodes_in c t) no_node {n = n} (omega arith) in
         let z : false ≡ true = ap (λ (v : Node). any (taken_trees v.constraint)) (sym d) ∙ e in
-        let o : ◌≡◌ {A = ℕ} 0 1 = cc in
-        absurd (omega arith)
+        absurd (cc)
 
 module _ (D : ℕ → ℕ → List Event → List Event) (h : List Event) where
   -- only at a choice node it counts what is picked, and what comes inside and behind the node
@@ -40,14 +39,14 @@ module _ (D : ℕ → ℕ → List Event → List Event) (h : List Event) where
   picked_++ : (n i b z : List Event) (o : Option Choice) → picked D (n ++ z) i (b ++ z) o ≡ picked D n i b o ++ z
   picked_++ n i b z None = refl
   picked_++ n i b z (Some Stay) = refl
-  picked_++ n i b z (Some (Adjoin β σ)) = ap (λ (v : List Event). choice (suc β) ∷ v) (sym (append_assoc (D β σ i) b z))
+  picked_++ n i b z (Some (Adjoin β σ)) = rw append_assoc refl
 
   pub from_++ : (n i b z : List Event) (o : Option Choice) (k : Kind) (x : Bool) → from_node D h (n ++ z) i (b ++ z) o k x ≡ from_node D h n i b o k x ++ z
   from_++ n i b z o (Inner l) true = picked_++ n i b z o
   from_++ n i b z o (Inner l) false = refl
   from_++ n i b z o (Word w) x = refl
   from_++ n i b z o Empty x = refl
-  from_++ n i b z o (Foot l) true = ap (λ (v : List Event). picked D v h (b ++ z) o) (sym (append_assoc h n z)) ∙ picked_++ (h ++ n) h b z o
+  from_++ n i b z o (Foot l) true = rw (← append_assoc h n z, picked_++ (h ++ n) h b z o) refl
   from_++ n i b z o (Foot l) false = sym (append_assoc h n z)
 
 module _ (c : Contents) (E : Ends c) (D : ℕ → ℕ → List Event → List Event) (t : ℕ) (h : List Event) where
@@ -61,10 +60,10 @@ module _ (c : Contents) (E : Ends c) (D : ℕ → ℕ → List Event → List Ev
   -- behind the end nothing comes
   pub tour_none : (C : ℕ → Option Choice) (k a e : ℕ) → e ≤ a → tour c D C t k a e h ≡ []
   tour_none C zero a e l = refl
-  tour_none C (suc k) a e l = ap (λ (b : Bool). cond b (here C k a e) []) (le-ltb a e l)
+  tour_none C (suc k) a e l = rw (le-ltb a e l) refl
 
   pub tour_some : (C : ℕ → Option Choice) (k a e : ℕ) → a < e → tour c D C t (suc k) a e h ≡ here C k a e
-  tour_some C k a e l = ap (λ (b : Bool). cond b (here C k a e) []) (lt-ltb a e l)
+  tour_some C k a e l = rw (lt-ltb a e l) refl
 
   pub tour_fuel : (C : ℕ → Option Choice) (M : ℕ) → N ≤ M → (k k' a e : ℕ) → e ≤ M → M ≤ k + a → M ≤ k' + a → tour c D C t k a e h ≡ tour c D C t k' a e h
   tour_fuel C M n zero k' a e l p q = sym (tour_none C k' a e (omega arith))

@@ -6,11 +6,11 @@ ghost use Rattle.spelling.specs.Refusals.{refusal_number};
 #[derive(Clone, Copy, PartialEq, Eq, Debug)]
 pub enum Refusal {
     /// The stack has fewer entries than the buffer has bytes.
-    SmallStack,
+    SmallStack = 26,
     /// The chart's verdict is not yes.
-    NoYes,
+    NoYes = 23,
     /// The certificate is longer than the buffer.
-    SmallBuffer,
+    SmallBuffer = 24,
 }
 
 impl Refusal {
@@ -18,10 +18,6 @@ impl Refusal {
     pub fn number(self) -> u8
         ensures { result ≡ refusal_number self }
     {
-        match self {
-            Refusal::SmallStack => 26,
-            Refusal::NoYes => 23,
-            Refusal::SmallBuffer => 24,
-        }
+        self as u8
     }
 }

@@ -3,5 +3,6 @@ pub mod Orders
 pub mod Conclusions
 pub mod Runs
 pub mod Verdicts
+pub mod Texts
 pub mod Known
 pub mod ItemSameLemmas

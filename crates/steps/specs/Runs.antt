@@ -1,7 +1,8 @@
 -- What a chart holds after so many items processed.
-use Rattle.std.specs.Prelude.{ℕ, zero, suc, ◌+◌, Bool, true, false, cond, not, ◌&&◌, List, [], ◌∷◌, ◌++◌, length, nat_lt}
+use Rattle.std.specs.Prelude.{ℕ, zero, suc, ◌+◌, Bool, true, false, cond, not, ◌&&◌, List, [], ◌∷◌, ◌++◌, length, Ok, Err, Result, nat_lt}
 use Rattle.distinct.specs.declared.Added.{Added}
-use Rattle.distinct.specs.declared.Added.TheVariants.{Held, New, NoRoom}
+use Rattle.distinct.specs.declared.Added.TheVariants.{Held, New}
+use Rattle.distinct.specs.declared.NoRoom.{NoRoom}
 use Rattle.distinct.specs.Adding.{answer_in}
 use Rattle.format.specs.Parts.{Contents}
 use Rattle.words.specs.Meaning.{Meaning}
@@ -15,10 +16,10 @@ pub record State : Type 0 where
   pub full : Bool
 
 -- one conclusion offered to the distinct list of items, by what the list answers
-abbrev pub draw_by : List Item → Item → Added → State
-draw_by its x (Held k) = record { items = its; full = false }
-draw_by its x (New k) = record { items = its ++ (x ∷ []); full = false }
-draw_by its x NoRoom = record { items = its; full = true }
+abbrev pub draw_by : List Item → Item → Result Added NoRoom → State
+draw_by its x (Ok (Held k)) = record { items = its; full = false }
+draw_by its x (Ok (New k)) = record { items = its ++ (x ∷ []); full = false }
+draw_by its x (Err e) = record { items = its; full = true }
 
 -- One conclusion drawn, with room for `cap` items. A full chart takes no more.
 abbrev pub draw : ℕ → State → Item → State

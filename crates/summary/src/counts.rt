@@ -5,7 +5,7 @@ ghost use Rattle.summary.specs.Counts.{Counted};
 use grammar::grammar::Grammar;
 
 /// How many labels, words, trees and nodes a grammar has.
-#[derive(Clone, Copy)]
+#[derive(Clone, Copy, PartialEq, Eq, Debug)]
 pub struct Counts {
     pub labels: u8,
     pub words: u16,
@@ -13,11 +13,11 @@ pub struct Counts {
     pub nodes: usize,
 }
 
-impl Counts {
-    /// The counts of a grammar.
-    pub fn of(grammar: &Grammar) -> Counts
-        ensures { Counted (contents_in grammar.now) result }
-    {
+/// The counts of a grammar.
+impl From<&Grammar> for Counts {
+    ghost from_gives = { λ grammar counts. Counted (contents_in grammar.now) counts };
+
+    fn from(grammar: &Grammar) -> Counts {
         Counts {
             labels: grammar.labels(),
             words: grammar.words(),

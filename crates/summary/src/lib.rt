@@ -1,5 +1,4 @@
-//! What the programs tell of a reading: the counts of a grammar, or the line of its fault.
+//! What the programs tell of a grammar: how much it has.
 #![tactic(auto)]
 
 pub mod counts;
-pub mod fault;

@@ -1,10 +1,12 @@
 -- Conclusions drawn: what a chart holds after them.
-use Rattle.std.proofs.Common.{◌≡◌, ℕ, suc, ◌+◌, ◌<◌, ◌≤◌, Bool, true, false, cond, ltb, List, [], ◌∷◌, ◌++◌, length, Some, None, Option, sym, refl, ap, ◌∙◌, subst, arith}
+use Rattle.std.proofs.Common.{◌≡◌, ℕ, suc, ◌+◌, ◌<◌, ◌≤◌, Bool, true, false, cond, ltb, List, [], ◌∷◌, ◌++◌, length, Some, None, Ok, Option, sym, refl, ap, ◌∙◌, subst, arith}
 use native.Mathlib.Decide.{dec_lt}
 use lib.ListN.{get_or-append}
 use Rattle.std.proofs.lemmas.List.{length_push, get_or_push}
-use Rattle.distinct.specs.declared.Added.TheVariants.{New, NoRoom}
-use Rattle.distinct.specs.Adding.{first_same, answer_at}
+use Rattle.std.proofs.lemmas.Bool.{true≢false}
+use Rattle.std.proofs.lemmas.Option.{none-some}
+use Rattle.distinct.specs.declared.Added.TheVariants.{New}
+use Rattle.distinct.specs.Adding.{first_same, no_room, answer_at}
 use Rattle.steps.specs.declared.item.Item.{Item}
 use Rattle.steps.specs.Items.{same_item, blank, item_at}
 use Rattle.steps.specs.Runs.{State, draw_by, draw, draw_all}
@@ -51,7 +53,7 @@ pub record Drawn (s : State) (xs : List Item) (r : State) : Type 0 where
 
 -- the number of the first same item
 first_held : (k : ℕ) (its : List Item) (x : Item) (n : ℕ) → first_same same_item k its x ≡ Some n → Holds its x
-first_held k [] x n e = let z : ◌≡◌ {A = ℕ} 0 1 = cc in absurd (omega arith)
+first_held k [] x n e = absurd (none-some n e)
 first_held k (y ∷ ys) x n e = pick (same_item y x) refl e (λ u. first_held (k + 1) ys x n u)
   where
     pick : (b : Bool) → same_item y x ≡ b → cond b (Some k) (first_same same_item (k + 1) ys x) ≡ Some n
@@ -86,14 +88,14 @@ drawn_full : (s : State) (xs : List Item) → Drawn s xs (record { items = s.ite
 drawn_full s xs = record {
   grows = prefix_refl s.items;
   new = λ k l u. absurd (omega arith);
-  was_open = λ v. (let z : ◌≡◌ {A = ℕ} 0 1 = cc in absurd (omega arith));
-  held = λ v y u. (let z : ◌≡◌ {A = ℕ} 0 1 = cc in absurd (omega arith));
+  was_open = λ v. absurd (true≢false v);
+  held = λ v y u. absurd (true≢false v);
 }
 
 drawn_one : (cap : ℕ) (s : State) (x : Item) → Drawn s (x ∷ []) (draw cap s x)
 drawn_one cap s x = by_full s.full refl
   where
-    room : (b : Bool) → s.full ≡ false → Drawn s (x ∷ []) (draw_by s.items x (cond b (New (length s.items)) NoRoom))
+    room : (b : Bool) → s.full ≡ false → Drawn s (x ∷ []) (draw_by s.items x (cond b (Ok (New (length s.items))) no_room))
     room true e = subst (λ (v : Bool). Drawn (record { items = s.items; full = v }) (x ∷ []) (record { items = s.items ++ (x ∷ []); full = false })) (sym e) (drawn_new s.items x)
     room false e = drawn_full s (x ∷ [])
 

@@ -1,8 +1,8 @@
 -- No chart holds more items than it has room for.
-use Rattle.std.proofs.Common.{◌≡◌, ℕ, zero, suc, ◌≤◌, Bool, true, false, cond, ltb, List, [], ◌∷◌, length, Some, None, Option, refl, arith, ltb-true}
+use Rattle.std.proofs.Common.{◌≡◌, ℕ, zero, suc, ◌≤◌, Bool, true, false, cond, ltb, List, [], ◌∷◌, length, Some, None, Ok, Option, refl, arith, ltb-true}
 use Rattle.std.proofs.lemmas.List.{length_push}
-use Rattle.distinct.specs.declared.Added.TheVariants.{New, NoRoom}
-use Rattle.distinct.specs.Adding.{first_same, answer_at}
+use Rattle.distinct.specs.declared.Added.TheVariants.{New}
+use Rattle.distinct.specs.Adding.{first_same, no_room, answer_at}
 use Rattle.format.specs.Parts.{Contents}
 use Rattle.words.specs.Meaning.{Meaning}
 use Rattle.steps.specs.declared.item.Item.{Item}
@@ -14,7 +14,7 @@ use Rattle.theory.specs.Theorems.{chart}
 draw_room : (cap : ℕ) (s : State) (x : Item) → length s.items ≤ cap → length (draw cap s x).items ≤ cap
 draw_room cap s x h = by_full s.full
   where
-    room : (b : Bool) → ltb (length s.items) cap ≡ b → length (draw_by s.items x (cond b (New (length s.items)) NoRoom)).items ≤ cap
+    room : (b : Bool) → ltb (length s.items) cap ≡ b → length (draw_by s.items x (cond b (Ok (New (length s.items))) no_room)).items ≤ cap
     room true e = omega (arith, length_push s.items x, ltb-true (length s.items) cap e)
     room false e = h
 

@@ -46,6 +46,4 @@ module _ (s : List Frame) (d : ℕ) (low : Low s d) where
     unfolding paused
     paused_kept zero e f = refl
     paused_kept (suc k) e f =
-        ap (λ (p : Piece). of_piece p (content s' p.frame) (paused s' k)) (e k (omega arith))
-        ∙ (ap (λ (u : Ahead). of_piece (waiting_at s k) u (paused s' k)) (content_kept (waiting_at s k).frame (f k (omega arith)))
-        ∙ ap (of_piece (waiting_at s k) (content s (waiting_at s k).frame)) (paused_kept k (λ j h. e j (omega arith)) (λ j h. f j (omega arith))))
+        rw (e k (omega arith), content_kept (waiting_at s k).frame (f k (omega arith)), paused_kept k (λ j h. e j (omega arith)) (λ j h. f j (omega arith))) refl

@@ -1,44 +1,54 @@
 -- What the guide keeps from move to move.
-use Rattle.std.proofs.Common.{◌≡◌, ℕ, ◌<◌, ◌≤◌, false, List, sym, refl, subst, arith}
+use Rattle.std.proofs.Common.{◌≡◌, ℕ, ◌<◌, false, sym, refl, ap, ◌∙◌, subst}
 use Rattle.format.specs.declared.node.Kind.{Kind}
 use Rattle.format.specs.declared.node.Kind.TheVariants.{Inner, Word, Empty, Foot}
+use Rattle.format.specs.declared.node.Node.{Node}
 use Rattle.format.specs.Parts.{Contents}
-use Rattle.walk.specs.declared.stack.Frame.{Frame}
-use Rattle.walk.specs.declared.stack.Walk.{Walk}
-use Rattle.walk.specs.Ahead.{Ahead, part, entered}
-use Rattle.walk.specs.Sizes.{size}
-use Rattle.walk.specs.Stacks.{content, paused, ahead_of, UnderWay}
-use Rattle.walk.specs.Guided.{is_word, Led, PassedOn}
-use Rattle.walk.proofs.Sizes.{size_entered}
+use Rattle.format.specs.Keeps.{node_in, taken_trees, any}
+use Rattle.walk.specs.declared.choice.Choice.{Choice}
+use Rattle.walk.specs.declared.stack.Piece.{Piece}
+use Rattle.walk.specs.declared.walking.Walking.{Walking}
+use Rattle.walk.specs.Ahead.{Ahead, part, entered, followed}
+use Rattle.walk.specs.Stacks.{content, paused}
+use Rattle.walk.specs.Moves.{contents_of, ahead_of, entered_here, Moved}
+use Rattle.walk.specs.Guided.{is_word, Silent, Asks, Led, Reached}
 
-pub wordless : (k : Kind) → ((w : ℕ) → k ≡ Word w → ⊥) → is_word k ≡ false
+wordless : (k : Kind) → ((w : ℕ) → k ≡ Word w → ⊥) → is_word k ≡ false
 wordless (Inner l) n = refl
 wordless (Word w) n = absurd (n w refl)
 wordless Empty n = refl
 wordless (Foot l) n = refl
 
-module _ {S : Type 0} (H : S → S → Contents → Ahead → Type 0) (L : S → ℕ) (c : Contents) where
-  pub led_on : (a b d : Ahead) (x y z : S) → Led H c a b x y → Led H c b d y z → Led H c a d x z
-  led_on a b d x y z l m = record { holds = λ s₀ h. m.holds s₀ (l.holds s₀ h) }
-
-  -- a node passed
-  pub passed_on : (s s' : S) (f f' : List Frame) (w w' : Walk) → w.here.node < w.here.end → UnderWay c f' w' → w'.depth ≡ w.depth
-      → ahead_of f' w' ≡ entered c w.here.tag w.here.tree w.here.node w.here.end (content f w.here.frame) (paused f w.waits)
-      → L s' ≡ L s
-      → ((s₀ : S) → H s₀ s c (ahead_of f w) → H s₀ s' c (entered c w.here.tag w.here.tree w.here.node w.here.end (content f w.here.frame) (paused f w.waits)))
-      → PassedOn H L c s s' f f' w w'
-  passed_on s s' f f' w w' lt going depth e left keeps =
+module _ {S : Type 0} (H : S → S → Contents → Ahead → Type 0) {d : Contents} {a : Ahead} {x s : S} where
+  -- a node passed in silence, after other moves
+  pub silent_on : Silent H → (w w' : Walking) (v : Node) → contents_of w ≡ d → Led H d a (ahead_of w) x s → w.here.node < w.here.end
+      → v ≡ node_in (contents_of w) w.here.tree w.here.node → ((y : ℕ) → v.kind ≡ Word y → ⊥) → any (taken_trees v.constraint) ≡ false
+      → Moved w.depth (entered_here w) w w' → Led H d a (ahead_of w') x s
+  silent_on silent w w' v e l lt v-is n f m =
       record {
-        going = going;
-        depth = depth;
-        left = left;
-        led = record { holds = λ s₀ h. subst (H s₀ s' c) (sym e) (keeps s₀ h) };
-        less = subst (λ (a : Ahead). size a < size (ahead_of f w)) (sym e) (size_entered w.here.tag w.here.tree w.here.node w.here.end (content f w.here.frame) (paused f w.waits) lt c);
+        holds = λ s₀ h. subst (H s₀ s d)
+            (sym (m.ahead ∙ ap (λ (c : Contents). entered c w.here.tag w.here.tree w.here.node w.here.end (content w.stack.now w.here.frame) (paused w.stack.now w.waits)) e))
+            (silent s₀ s d w.here.tag w.here.tree w.here.node w.here.end (content w.stack.now w.here.frame) (paused w.stack.now w.waits) lt
+            (ap (λ (c : Contents). is_word (node_in c w.here.tree w.here.node).kind) (sym e) ∙ (ap (λ (u : Node). is_word u.kind) (sym v-is) ∙ wordless v.kind n))
+            (ap (λ (c : Contents). any (taken_trees (node_in c w.here.tree w.here.node).constraint)) (sym e) ∙ (ap (λ (u : Node). any (taken_trees u.constraint)) (sym v-is) ∙ f))
+            (l.holds s₀ h));
       }
 
-  -- the end of a part
-  pub over_part : ((s₀ s : S) (d : Contents) (τ t e : ℕ) (u r : Ahead) → H s₀ s d (part τ t e e u r) → H s₀ s d r)
-      → (s : S) (τ t n e : ℕ) (u r : Ahead) → n ≤ e → e ≤ n → Led H c (part τ t n e u r) r s s
-  over_part over s τ t n e u r a b =
-      let z : n ≡ e = omega arith in
-      record { holds = λ s₀ h. over s₀ s c τ t e u r (subst (λ (m : ℕ). H s₀ s c (part τ t m e u r)) z h) }
+  -- a choice followed, after other moves
+  pub chosen_on : (L : S → ℕ) (v w w' : Walking) (p : Piece) (y : Choice) {s' t : S} {n : ℕ} → contents_of v ≡ d → Led H d a (ahead_of v) x s → Reached H L s t v w p
+      → ((s₀ : S) (e : ℕ) (u r : Ahead) → Asks d p.tree p.node e → H s₀ t d (part p.tag p.tree p.node e u r) → H s₀ s' d (followed d y p.tag p.tree p.node e u r))
+      → Moved n (followed (contents_of w) y w.here.tag w.here.tree w.here.node w.here.end (content w.stack.now w.here.frame) (paused w.stack.now w.waits)) w w'
+      → Led H d a (ahead_of w') x s'
+  chosen_on L v w w' p y {s'} {t} e l r k m =
+      let q : contents_of w ≡ d = r.grammar ∙ e in
+      let on : Led H d (ahead_of v) (ahead_of w) s t = subst (λ (c : Contents). Led H c (ahead_of v) (ahead_of w) s t) e r.led in
+      let asks : Asks d p.tree p.node p.end = subst (λ (c : Contents). Asks c p.tree p.node p.end) e r.asks in
+      record {
+        holds = λ s₀ h.
+            let kept : (z : Piece) → p ≡ z → H s₀ t d (part z.tag z.tree z.node z.end (content w.stack.now z.frame) (paused w.stack.now w.waits))
+            → H s₀ s' d (followed d y z.tag z.tree z.node z.end (content w.stack.now z.frame) (paused w.stack.now w.waits)) = λ z i.
+            subst (λ (z : Piece). H s₀ t d (part z.tag z.tree z.node z.end (content w.stack.now z.frame) (paused w.stack.now w.waits))
+            → H s₀ s' d (followed d y z.tag z.tree z.node z.end (content w.stack.now z.frame) (paused w.stack.now w.waits))) i
+            (k s₀ p.end (content w.stack.now p.frame) (paused w.stack.now w.waits) asks) in
+            rw (m.ahead, q) (kept w.here r.here (on.holds s₀ (l.holds s₀ h)));
+      }

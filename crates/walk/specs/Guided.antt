@@ -2,20 +2,19 @@
 --
 -- A guide makes the choices and hears the words. `H s₀ s c a` is what the guide keeps: it began as s₀, it stands as s, and `a` is still to walk in the grammar c. `P s₀ s c` is what holds where it
 -- stops the walk, and `L s` is how many choices it can still make.
-use Rattle.std.specs.Prelude.{◌≡◌, ℕ, ◌<◌, ◌≤◌, Bool, true, false, List, Some, None, Option}
+use Rattle.std.specs.Prelude.{◌≡◌, ℕ, ◌<◌, ◌≤◌, Bool, true, false, length, Some, None, Option, Ok, Err, Result}
 use Rattle.format.specs.declared.node.Kind.{Kind}
 use Rattle.format.specs.declared.node.Kind.TheVariants.{Inner, Word, Empty, Foot}
 use Rattle.format.specs.Parts.{Contents}
 use Rattle.format.specs.Keeps.{node_in}
 use Rattle.derivation.specs.Walks.{is_choice}
 use Rattle.walk.specs.declared.choice.Choice.{Choice}
-use Rattle.walk.specs.declared.choice.Course.{Course}
-use Rattle.walk.specs.declared.choice.Course.TheVariants.{Ended, Stopped, SmallStack}
-use Rattle.walk.specs.declared.stack.Frame.{Frame}
-use Rattle.walk.specs.declared.stack.Walk.{Walk}
+use Rattle.walk.specs.declared.choice.Halt.{Halt}
+use Rattle.walk.specs.declared.choice.Halt.TheVariants.{Stopped, SmallStack}
+use Rattle.walk.specs.declared.stack.Piece.{Piece}
+use Rattle.walk.specs.declared.walking.Walking.{Walking}
 use Rattle.walk.specs.Ahead.{Ahead, nothing, part, entered, followed}
-use Rattle.walk.specs.Sizes.{size}
-use Rattle.walk.specs.Stacks.{ahead_of, UnderWay}
+use Rattle.walk.specs.Moves.{contents_of, ahead_of}
 
 abbrev pub is_word : Kind → Bool
 is_word (Inner l) = false
@@ -54,38 +53,23 @@ Chosen {S} H P L c s s' τ t n (Some x) =
 pub record Led {S : Type 0} (H : S → S → Contents → Ahead → Type 0) (c : Contents) (a a' : Ahead) (s s' : S) : Type 0 where
   pub holds : (s₀ : S) → H s₀ s c a → H s₀ s' c a'
 
--- One node passed: a word is heard, or the node is silent. Less is then ahead.
-pub record PassedOn {S : Type 0} (H : S → S → Contents → Ahead → Type 0) (L : S → ℕ) (c : Contents) (s s' : S) (f f' : List Frame) (w w' : Walk) : Type 0 where
-  pub going : UnderWay c f' w'
+-- Up to the next choice node, where p begins.
+pub record Reached {S : Type 0} (H : S → S → Contents → Ahead → Type 0) (L : S → ℕ) (s s' : S) (w w' : Walking) (p : Piece) : Type 0 where
+  pub here : p ≡ w'.here
+  pub asks : Asks (contents_of w) p.tree p.node p.end
+  pub grammar : contents_of w' ≡ contents_of w
+  pub entries : length w'.stack.now ≡ length w.stack.now
   pub depth : w'.depth ≡ w.depth
   pub left : L s' ≡ L s
-  pub led : Led H c (ahead_of f w) (ahead_of f' w') s s'
-  pub less : size (ahead_of f' w') < size (ahead_of f w)
-
--- A choice node is not passed.
-pub record NotPassed {S : Type 0} (c : Contents) (s s' : S) (f f' : List Frame) (w : Walk) : Type 0 where
-  pub asks : Asks c w.here.tree w.here.node w.here.end
-  pub guide : s' ≡ s
-  pub stack : f' ≡ f
-
-abbrev pub Passed : {S : Type 0} → (S → S → Contents → Ahead → Type 0) → (S → ℕ) → Contents → S → S → List Frame → List Frame → Walk → Option Walk → Type 0
-Passed H L c s s' f f' w None = NotPassed c s s' f f' w
-Passed H L c s s' f f' w (Some w') = PassedOn H L c s s' f f' w w'
+  pub led : Led H (contents_of w) (ahead_of w) (ahead_of w') s s'
 
 -- Up to the next choice node, or to the end.
-pub record Reached {S : Type 0} (H : S → S → Contents → Ahead → Type 0) (L : S → ℕ) (c : Contents) (a : Ahead) (s s' : S) (f : List Frame) (w w' : Walk) : Type 0 where
-  pub going : UnderWay c f w'
-  pub depth : w'.depth ≡ w.depth
-  pub asks : Asks c w'.here.tree w'.here.node w'.here.end
-  pub left : L s' ≡ L s
-  pub led : Led H c a (ahead_of f w') s s'
-
-abbrev pub NextChoice : {S : Type 0} → (S → S → Contents → Ahead → Type 0) → (S → ℕ) → Contents → Ahead → S → S → List Frame → Walk → Option Walk → Type 0
-NextChoice H L c a s s' f w None = Led H c a nothing s s'
-NextChoice H L c a s s' f w (Some w') = Reached H L c a s s' f w w'
+abbrev pub NextChoice : {S : Type 0} → (S → S → Contents → Ahead → Type 0) → (S → ℕ) → S → S → Walking → Walking → Option Piece → Type 0
+NextChoice H L s s' w w' None = Led H (contents_of w) (ahead_of w) nothing s s'
+NextChoice H L s s' w w' (Some p) = Reached H L s s' w w' p
 
 -- A whole walk, on a stack of so many entries: it needs one more than the guide has choices left.
-abbrev pub Guided : {S : Type 0} → (S → S → Contents → Ahead → Type 0) → (S → S → Contents → Type 0) → (S → ℕ) → Contents → ℕ → Ahead → S → S → Course → Type 0
-Guided H P L c entries a s s' Ended = (L s < entries) × Led H c a nothing s s'
-Guided {S} H P L c entries a s s' Stopped = (L s < entries) × ((s₀ : S) → H s₀ s c a → P s₀ s' c)
-Guided H P L c entries a s s' SmallStack = (entries ≤ L s) × (s' ≡ s)
+abbrev pub Guided : {S : Type 0} → (S → S → Contents → Ahead → Type 0) → (S → S → Contents → Type 0) → (S → ℕ) → Contents → ℕ → Ahead → S → S → Result (Unit {0}) Halt → Type 0
+Guided H P L c entries a s s' (Ok x) = (L s < entries) × Led H c a nothing s s'
+Guided {S} H P L c entries a s s' (Err Stopped) = (L s < entries) × ((s₀ : S) → H s₀ s c a → P s₀ s' c)
+Guided H P L c entries a s s' (Err SmallStack) = (entries ≤ L s) × (s' ≡ s)

@@ -1,4 +1,5 @@
 pub mod Ahead
 pub mod Sizes
 pub mod Stacks
+pub mod Moves
 pub mod Guided

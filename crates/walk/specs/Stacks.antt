@@ -1,10 +1,12 @@
 -- What a stack and a walk under way mean.
-use Rattle.std.specs.Prelude.{ℕ, zero, suc, ◌+◌, ◌-◌, ◌*◌, ◌/◌, ◌%◌, ◌<◌, ◌≤◌, Bool, true, false, List, length, Some, None, Option, ◌==◌, slice_index_or}
+use Rattle.std.specs.Prelude.{ℕ, zero, suc, ◌+◌, ◌-◌, ◌*◌, ◌/◌, ◌%◌, ◌<◌, ◌≤◌, List, [], length, Some, None, Option, slice_index_or}
+use Rattle.std.specs.Option.{ForSome}
+use Rattle.format.specs.declared.node.Kind.{Kind}
+use Rattle.format.specs.declared.node.Kind.TheVariants.{Inner, Word, Empty, Foot}
 use Rattle.format.specs.Parts.{Contents}
 use Rattle.format.specs.Keeps.{nodes_in, node_in}
 use Rattle.walk.specs.declared.stack.Piece.{Piece}
 use Rattle.walk.specs.declared.stack.Frame.{Frame}
-use Rattle.walk.specs.declared.stack.Walk.{Walk}
 use Rattle.walk.specs.Ahead.{Ahead, nothing, part}
 
 -- Entries and waiting pieces --------------------------------------------------------------------------------------------------
@@ -12,19 +14,23 @@ use Rattle.walk.specs.Ahead.{Ahead, nothing, part}
 abbrev pub no_piece : Piece
 no_piece = record { frame = 0; tag = 0; tree = 0; node = 0; end = 0 }
 
+-- what stands for an entry that is not there
 abbrev pub no_frame : Frame
-no_frame = record { content = None; even = no_piece; odd = no_piece }
+no_frame = record { content = None; waiting = [] }
 
 abbrev pub frame_at : List Frame → ℕ → Frame
 frame_at s i = slice_index_or s i no_frame
 
-abbrev pub slot : Frame → Bool → Piece
-slot f true = f.even
-slot f false = f.odd
-
 -- the piece that waits at k, two to an entry
 abbrev pub waiting_at : List Frame → ℕ → Piece
-waiting_at s k = slot (frame_at s (k / 2)) (k % 2 == 0)
+waiting_at s k = slice_index_or (frame_at s (k / 2)).waiting (k % 2) no_piece
+
+-- the content of a node: what comes at the foot, for a foot; otherwise what is inside
+abbrev pub content_piece : Kind → Piece → Option Piece → Option Piece
+content_piece (Inner l) p o = Some p
+content_piece (Word w) p o = Some p
+content_piece Empty p o = Some p
+content_piece (Foot l) p o = o
 
 -- What is still to walk ---------------------------------------------------------------------------------------------------------
 
@@ -49,9 +55,6 @@ unfoldable pub paused : List Frame → ℕ → Ahead
 paused s zero = nothing
 paused s (suc k) = of_piece (waiting_at s k) (content s (waiting_at s k).frame) (paused s k)
 
-abbrev pub ahead_of : List Frame → Walk → Ahead
-ahead_of s w = of_piece w.here (content s w.here.frame) (paused s w.waits)
-
 -- What every walk under way keeps --------------------------------------------------------------------------------------------------
 
 -- how many contents lie one in the other
@@ -70,8 +73,7 @@ pub record Fine (c : Contents) (d : ℕ) (p : Piece) : Type 0 where
   pub whole : (n : ℕ) → p.node ≤ n → n < p.end → (node_in c p.tree n).end ≤ p.end
 
 abbrev pub FineContent : Contents → ℕ → Option Piece → Type 0
-FineContent c i None = Unit {0}
-FineContent c i (Some p) = Fine c i p
+FineContent c i o = ForSome o (Fine c i)
 
 -- The walk has begun d trees, k pieces wait, and p is being walked. Each tree begun gives room for two pieces to wait: one at the node that it is adjoined to, one at its foot.
 pub record Going (c : Contents) (s : List Frame) (d k : ℕ) (p : Piece) : Type 0 where
@@ -82,6 +84,3 @@ pub record Going (c : Contents) (s : List Frame) (d k : ℕ) (p : Piece) : Type 
   pub top : 0 < k → level s (waiting_at s (k - 1)) ≤ suc (level s p)
   pub chain : (j : ℕ) → suc j < k → level s (waiting_at s j) ≤ suc (level s (waiting_at s (suc j)))
   pub bound : k + level s p + 2 ≤ 2 * d
-
-abbrev pub UnderWay : Contents → List Frame → Walk → Type 0
-UnderWay c s w = Going c s w.depth w.waits w.here

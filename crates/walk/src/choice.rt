@@ -1,16 +1,20 @@
-//! What is picked at a node that lists trees.
+//! What is picked at a node that lists trees, and why a walk halts.
 
-/// To stay as it is, or to take a tree, with the tag by which the guide will know that tree.
+/// What is picked at a node that lists trees.
+// No Option: a guide answers `Option<Choice>`, and `Option<Option<(u8, usize)>>` would not show which None stops the walk and which leaves the node as it is.
 #[derive(Clone, Copy)]
 pub enum Choice {
+    /// The node stays as it is.
     Stay,
+    /// It takes a tree, with the tag by which the guide will know that tree.
     Adjoin(u8, usize),
 }
 
-/// How a walk ended: everything was walked; the guide stopped it; or it was not begun, since the stack has no more entries than the guide has choices left.
+/// Why a walk did not come to its end.
 #[derive(Clone, Copy, PartialEq, Eq, Debug)]
-pub enum Course {
-    Ended,
+pub enum Halt {
+    /// The guide stopped it.
     Stopped,
+    /// It was not begun: the stack has no more entries than the guide has choices left.
     SmallStack,
 }

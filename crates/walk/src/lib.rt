@@ -4,6 +4,7 @@
 pub mod choice;
 pub mod guide;
 pub mod machine;
-mod moves;
+mod node;
 mod slots;
 pub mod stack;
+mod walking;

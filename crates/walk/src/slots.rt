@@ -1,17 +1,8 @@
-//! Reading and writing the entries of a stack.
+//! Writing the entries of a stack.
 ghost use Rattle.std.specs.Prelude.{◌≡◌, ℕ, ◌/◌, ◌<◌, length, ◌≢◌};
 ghost use Rattle.walk.specs.Stacks.{frame_at, waiting_at};
 
 use crate::stack::{Frame, Piece};
-
-/// The piece that waits at `k`.
-pub(crate) fn waiting(stack: &[Frame], k: usize) -> Piece
-    requires { k / 2 < length stack.now }
-    ensures { result ≡ waiting_at stack.now k }
-{
-    let frame = stack[k / 2];
-    if k % 2 == 0 { frame.even } else { frame.odd }
-}
 
 /// Has the piece wait at `k`.
 pub(crate) fn pause(stack: &mut [Frame], k: usize, piece: Piece)
@@ -20,11 +11,8 @@ pub(crate) fn pause(stack: &mut [Frame], k: usize, piece: Piece)
     ensures others { (j : ℕ) → (j ≢ k) → waiting_at stack.new j ≡ waiting_at stack.old j }
     ensures contents { (i : ℕ) → (frame_at stack.new i).content ≡ (frame_at stack.old i).content }
 {
-    if k % 2 == 0 {
-        stack[k / 2].even = piece
-    } else {
-        stack[k / 2].odd = piece
-    }
+    let frame = &mut stack[k / 2];
+    frame.waiting[k % 2] = piece;
 }
 
 /// Begins the entry `i` of a tree with this content at its foot, and lets the pieces wait that wait there.

@@ -1,30 +1,24 @@
 //! The stack of a walk: one entry for each tree under way.
 
-/// Nodes of a tree that are still to walk: from `node` up to `end`, in the order of the tree. `frame` is the tree's entry on the stack, and `tag` is what the guide calls
-/// the tree.
+/// Nodes of a tree that are still to walk: from `node` up to `end`, in the order of the tree.
 #[derive(Clone, Copy)]
 pub struct Piece {
+    /// The tree's entry on the stack.
     pub frame: usize,
+    /// What the guide calls the tree.
     pub tag: usize,
     pub tree: u8,
     pub node: usize,
     pub end: usize,
 }
 
-/// An entry of the stack: what comes at the tree's foot, the content of the node that the tree is adjoined to; and room for two pieces that wait.
+/// An entry of the stack, of one tree.
 #[derive(Clone, Copy)]
 pub struct Frame {
+    /// What comes at the tree's foot: the content of the node that the tree is adjoined to.
     pub content: Option<Piece>,
-    pub even: Piece,
-    pub odd: Piece,
-}
-
-/// A walk under way: how many trees are begun, how many pieces wait, and the piece that is being walked.
-#[derive(Clone, Copy)]
-pub struct Walk {
-    pub depth: usize,
-    pub waits: usize,
-    pub here: Piece,
+    /// Room for two pieces that wait.
+    pub waiting: [Piece; 2],
 }
 
 /// No nodes at all.
@@ -39,6 +33,5 @@ pub const NO_PIECE: Piece = Piece {
 /// An entry as a stack may have it before a walk: what stands there is never read.
 pub const BLANK: Frame = Frame {
     content: None,
-    even: NO_PIECE,
-    odd: NO_PIECE,
+    waiting: [NO_PIECE; 2],
 };

@@ -1,4 +1,3 @@
 pub mod PathFacts
 pub mod RowWords
 pub mod EdgeLists
-pub mod WindowFacts

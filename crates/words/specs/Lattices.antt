@@ -1,8 +1,10 @@
 -- Word lattices: what one means, and what adding an edge does.
 use Rattle.std.specs.Prelude.{◌≡◌, ℕ, Bool, cond, ◌&&◌, ◌||◌, Ok, Err, vec_items, Result}
 use Rattle.distinct.specs.declared.Added.{Added}
-use Rattle.distinct.specs.declared.Added.TheVariants.{Held, New, NoRoom}
+use Rattle.distinct.specs.declared.Added.TheVariants.{Held, New}
+use Rattle.distinct.specs.declared.NoRoom.{NoRoom}
 use Rattle.distinct.specs.Adding.{answer}
+use Rattle.distinct.specs.Lists.{listed}
 use Rattle.distinct.specs.Runs.{Listed, held_in, after_offer}
 use Rattle.words.specs.declared.edge.Edge.{Edge}
 use Rattle.words.specs.declared.lattice.Lattice.{Lattice}
@@ -13,22 +15,22 @@ use Rattle.words.specs.Edges.{edge_of, same_edge, in_bounds, edges_mean}
 
 -- the distinct list of a lattice's edges
 abbrev pub list_of : Lattice → Listed Edge
-list_of l = record { memory = vec_items l.memory; count = l.held }
+list_of l = listed l.edges
 
 -- what a lattice means: its last position, and the edges held
 abbrev pub lattice_meaning : Lattice → Meaning
 lattice_meaning l = edges_mean l.last (held_in (list_of l))
 
 -- the number of an edge, by what the distinct list answers
-abbrev pub numbered : Added → Result ℕ Refusal
-numbered (Held k) = Ok k
-numbered (New k) = Ok k
-numbered NoRoom = Err ListFull
+abbrev pub numbered : Result Added NoRoom → Result ℕ Refusal
+numbered (Ok (Held k)) = Ok k
+numbered (Ok (New k)) = Ok k
+numbered (Err e) = Err ListFull
 
 -- the answer to an edge: first its bounds are judged, then the room for a new one
 abbrev pub edge_answer : Lattice → ℕ → ℕ → ℕ → Result ℕ Refusal
 edge_answer l from word to =
-    cond (in_bounds l.last from to) (numbered (answer same_edge (vec_items l.memory) l.held (edge_of from word to))) (Err OutOfBounds)
+    cond (in_bounds l.last from to) (numbered (answer same_edge (vec_items l.edges.memory) l.edges.held (edge_of from word to))) (Err OutOfBounds)
 
 -- the list after an edge
 abbrev pub list_after : Lattice → ℕ → ℕ → ℕ → Listed Edge

@@ -1,5 +1,5 @@
 -- Refusals by number.
-use Rattle.std.specs.Prelude.{ℕ}
+use Rattle.std.specs.Prelude.{ℕ, List, ◌++◌, codes, decimal}
 use Rattle.words.specs.declared.refusal.Refusal.{Refusal}
 use Rattle.words.specs.declared.refusal.Refusal.TheVariants.{OutOfBounds, ListFull}
 
@@ -7,3 +7,7 @@ use Rattle.words.specs.declared.refusal.Refusal.TheVariants.{OutOfBounds, ListFu
 abbrev pub refusal_number : Refusal → ℕ
 refusal_number OutOfBounds = 15
 refusal_number ListFull = 22
+
+-- the line of a refusal
+abbrev pub refusal_text : Refusal → List ℕ
+refusal_text e = codes "refused " ++ decimal (refusal_number e)

@@ -10,7 +10,7 @@ use crate::edge::Edge;
 use crate::lattice::Lattice;
 use crate::refusal::Refusal;
 use crate::source::{GREATEST_LAST, Source};
-use distinct::{Added, Same, add, number_of};
+use distinct::{DistinctList, Same};
 
 impl Same for Edge {
     ghost alike = { same_edge };
@@ -22,7 +22,7 @@ impl Same for Edge {
     ghost transitive = { Prim.search rules };
 
     fn same(&self, other: &Edge) -> bool {
-        self.from == other.from && self.word == other.word && self.to == other.to
+        self == other
     }
 }
 
@@ -42,14 +42,9 @@ impl Lattice {
         ensures means { lattice_meaning result ≡ empty_lattice last }
         ensures list { list_of result ≡ begun memory.items }
     {
-        let last = match judge_lattice(last) {
-            Ok(()) => last,
-            Err(_) => 0,
-        };
         Lattice {
-            memory,
-            held: 0,
-            last,
+            edges: DistinctList::new(memory),
+            last: judge_lattice(last).map_or(0, |()| last),
         }
     }
 
@@ -75,30 +70,17 @@ impl Lattice {
         ensures means { Gains (lattice_meaning self.old) (is_ok result) (edge_of from word to) (lattice_meaning self.new) }
         ensures last { self.new.last ≡ self.old.last }
     {
-        let Some(edge) = self.edge_within(from, word, to) else {
-            return Err(Refusal::OutOfBounds);
-        };
-        let held = self.held;
-        match add(&mut self.memory, held, edge) {
-            Added::Held(number) => Ok(number),
-            Added::New(number) => {
-                self.held += 1;
-                Ok(number)
-            }
-            Added::NoRoom => Err(Refusal::ListFull),
-        }
+        let edge = self
+            .edge_within(from, word, to)
+            .ok_or(Refusal::OutOfBounds)?;
+        Ok(self.edges.add(edge)?)
     }
 
     /// Hands the memory back.
     pub fn into_memory(self) -> Vec<Edge>
-        ensures { result ≡ self.memory }
+        ensures { result ≡ self.edges.memory }
     {
-        let Lattice {
-            memory,
-            held: _,
-            last: _,
-        } = self;
-        memory
+        self.edges.into_memory()
     }
 }
 
@@ -112,9 +94,7 @@ impl Source for Lattice {
     }
 
     fn has_edge(&self, from: u32, word: u16, to: u32) -> bool {
-        let Some(edge) = self.edge_within(from, word, to) else {
-            return false;
-        };
-        number_of(&self.memory.as_slice()[0..self.held], &edge).is_some()
+        self.edge_within(from, word, to)
+            .is_some_and(|edge| self.edges.contains(&edge))
     }
 }

@@ -40,7 +40,6 @@ impl Source for Row<'_> {
     }
 
     fn has_edge(&self, from: u32, word: u16, to: u32) -> bool {
-        let index = from as usize;
-        index < self.words.len() && word != 0 && self.words[index] == word && to == from + 1
+        word != 0 && self.words.get(from as usize) == Some(&word) && to == from + 1
     }
 }

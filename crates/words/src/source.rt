@@ -18,6 +18,7 @@ pub trait Source {
         ensures { result ≡ (meaning self.now).last };
 
     /// Whether `word` leads from the position `from` to the position `to`.
+    // Any numbers may be asked for, so the three are no `Edge`, whose positions are narrower.
     fn has_edge(&self, from: u32, word: u16, to: u32) -> bool
         ensures { result ≡ (meaning self.now).edge from word to };
 }

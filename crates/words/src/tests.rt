@@ -1,12 +1,6 @@
 use super::*;
 use std::test::Fail;
 
-const NO_EDGE: Edge = Edge {
-    from: 0,
-    word: 0,
-    to: 0,
-};
-
 #[test]
 fn a_row_has_at_most_65535_words(rt: HostRuntime) -> Result<(), Fail> {
     let words = vec![in rt.alloc(); 7u16; 65536]?;
@@ -35,7 +29,7 @@ fn a_lattice_has_a_last_position_of_at_most_65535(rt: HostRuntime) -> Result<(),
     assert_eq!(rt; judge_lattice(0), Ok(()));
     assert_eq!(rt; judge_lattice(65535), Ok(()));
     assert_eq!(rt; judge_lattice(65536), Err(Refusal::OutOfBounds));
-    let mut none = Lattice::new(vec![in rt.alloc(); NO_EDGE; 1]?, 0);
+    let mut none = Lattice::new(vec![in rt.alloc(); Edge::default(); 1]?, 0);
     assert_eq!(rt; none.add_edge(0, 1, 0), Err(Refusal::OutOfBounds));
     assert_eq!(rt; none.add_edge(0, 1, 1), Err(Refusal::OutOfBounds));
     Ok(())
@@ -43,7 +37,7 @@ fn a_lattice_has_a_last_position_of_at_most_65535(rt: HostRuntime) -> Result<(),
 
 #[test]
 fn edges_keep_the_bounds(rt: HostRuntime) -> Result<(), Fail> {
-    let mut lattice = Lattice::new(vec![in rt.alloc(); NO_EDGE; 1]?, 65535);
+    let mut lattice = Lattice::new(vec![in rt.alloc(); Edge::default(); 1]?, 65535);
     assert_eq!(rt; lattice.add_edge(5, 1, 5), Err(Refusal::OutOfBounds));
     assert_eq!(rt; lattice.add_edge(5, 1, 65536), Err(Refusal::OutOfBounds));
     assert_eq!(rt; lattice.add_edge(5, 1, 65535), Ok(0));

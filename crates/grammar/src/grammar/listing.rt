@@ -1,5 +1,6 @@
 //! The nodes that list a tree, in order.
-ghost use Rattle.std.specs.Prelude.{◌≡◌, ◌≤◌, length, drop};
+ghost use Rattle.std.specs.Prelude.{◌≡◌, drop, position};
+ghost use Rattle.format.specs.Keeps.{lists, nodes_in};
 ghost use Rattle.format.specs.Questions.{first, listing_nodes, listing_from};
 ghost use Rattle.grammar.specs.Grammars.{contents_in};
 
@@ -8,34 +9,35 @@ use crate::grammar::questions::listed;
 use format::node::Node;
 use format::spot::Site;
 
-/// The first of the tree's nodes, from the number `from` on, that lists the auxiliary tree.
-fn first_listing(nodes: &[Node], tree: u8, from: usize, auxiliary: u8) -> Option<Site>
-    requires { length nodes.now ≤ 256 }
-    ensures { result ≡ first (listing_nodes auxiliary tree from (drop from nodes.now)) }
+/// How many nodes from the number `from` on stand before the first that lists the auxiliary tree.
+fn first_listing(nodes: &[Node], from: usize, auxiliary: u8) -> Option<usize>
+    ensures { result ≡ position (λ v. lists v.constraint auxiliary) (drop from nodes.now) }
 {
-    for n in from..nodes.len() {
-        if listed(&nodes[n], auxiliary) {
-            return Some(Site {
-                tree,
-                node: n as u8,
-            });
-        }
-    }
-    None
+    nodes
+        .iter()
+        .skip(from)
+        .position(|node| listed(node, auxiliary))
 }
 
 impl Grammar {
+    /// The first of the tree's nodes, from the number `from` on, that lists the auxiliary tree.
+    fn listing_in(&self, tree: u8, from: u8, auxiliary: u8) -> Option<Site>
+        ensures { result ≡ first (listing_nodes auxiliary tree from (drop from (nodes_in (contents_in self.now) tree))) }
+    {
+        let past = first_listing(self.nodes(tree), usize::from(from), auxiliary)?;
+        Some(Site {
+            tree,
+            node: from + past as u8,
+        })
+    }
+
     /// The first node at or behind `from` that lists the auxiliary tree, by tree and then by node.
     pub fn next_listing(&self, auxiliary: u8, from: Site) -> Option<Site>
         ensures { result ≡ first (listing_from (contents_in self.now) auxiliary from.tree from.node) }
     {
-        let mut node = from.node as usize;
-        for tree in from.tree as usize..self.trees().len() {
-            if let Some(site) = first_listing(self.nodes(tree as u8), tree as u8, node, auxiliary) {
-                return Some(site);
-            }
-            node = 0;
-        }
-        None
+        (from.tree..self.tree_count()).find_map(|tree| {
+            let node = if tree == from.tree { from.node } else { 0 };
+            self.listing_in(tree, node, auxiliary)
+        })
     }
 }

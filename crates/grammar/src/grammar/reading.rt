@@ -12,13 +12,10 @@ impl Grammar {
         ensures judged { GrammarRead (judge bytes.now) result }
         ensures exact { GrammarExact bytes.now result }
     {
-        match read_fields(heap, bytes) {
-            Ok(draft) => Ok(Grammar {
-                labels: draft.labels,
-                words: draft.words,
-                table: draft.table,
-            }),
-            Err(error) => Err(error),
-        }
+        let draft = read_fields(heap, bytes)?;
+        Ok(Grammar {
+            header: draft.header,
+            table: draft.table,
+        })
     }
 }

@@ -1,6 +1,7 @@
 //! One more tree in a table.
-ghost use Rattle.std.specs.Prelude.{◌≡◌, ◌+◌, ◌&&◌, [], ◌∷◌, ◌++◌, length, OnOk, nat_le, nat_lt};
-ghost use Rattle.format.specs.Judge.{some_initial};
+ghost use Rattle.std.specs.Prelude.{◌≡◌, ◌+◌, ◌&&◌, not, [], ◌∷◌, ◌++◌, length, OnOk, nat_le, nat_lt};
+ghost use Rattle.std.specs.List.{list_any};
+ghost use Rattle.format.specs.Judge.{some_initial, is_auxiliary};
 ghost use Rattle.grammar.specs.Tables.{tree_behind};
 
 use crate::table::Table;
@@ -24,7 +25,7 @@ impl Table {
     pub(crate) fn has_room(&self, nodes: usize) -> bool
         ensures { result ≡ (nat_lt (length self.now.trees.items) 64 && nat_le (length self.now.nodes.items + nodes) 256) }
     {
-        self.trees.len() < 64 && self.nodes.len() <= 256 && nodes <= 256 - self.nodes.len()
+        self.trees.len() < 64 && self.nodes.len().saturating_add(nodes) <= 256
     }
 
     /// One more tree, with its nodes behind all others.
@@ -33,7 +34,7 @@ impl Table {
         ensures nodes { OnOk result (self.new.nodes.items ≡ self.old.nodes.items ++ planted.now.nodes.items) }
     {
         let start = self.nodes.len();
-        self.nodes.extend_from_slice(planted.nodes.as_slice())?;
+        self.nodes.extend_from_slice(&planted.nodes)?;
         self.trees.push(Tree {
             form,
             label: planted.label,
@@ -47,18 +48,13 @@ impl Table {
     pub(crate) fn some_initial(&self) -> bool
         ensures { result ≡ some_initial self.now.trees.items }
     {
-        any_initial(self.trees.as_slice())
+        any_initial(self.trees())
     }
 }
 
-/// Whether some of the trees is initial.
+/// Whether one of the trees is initial.
 fn any_initial(trees: &[Tree]) -> bool
-    ensures { result ≡ some_initial trees.now }
+    ensures { result ≡ list_any (λ t. not (is_auxiliary t.form)) trees.now }
 {
-    for tree in trees {
-        if let Form::Initial = tree.form {
-            return true;
-        }
-    }
-    false
+    trees.iter().any(|tree| tree.form == Form::Initial)
 }

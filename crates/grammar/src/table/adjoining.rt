@@ -5,7 +5,7 @@ ghost use Rattle.format.specs.Parts.{no_node, constrained};
 ghost use Rattle.grammar.specs.Adjoins.{Adjoins, OneSet};
 
 use crate::table::Table;
-use crate::table::constraint::{constraint_of, label_of, listable, needs_met, target};
+use crate::table::constraint::{marked, obligation};
 use format::fault::Rule;
 use format::node::Constraint;
 
@@ -16,8 +16,7 @@ impl Table {
         ensures nodes { self.new.nodes.items ≡ slice_set self.old.nodes.items slot (constrained (slice_index_or self.old.nodes.items slot no_node) constraint) }
         ensures trees { self.new.trees ≡ self.old.trees }
     {
-        let nodes = self.nodes.as_mut_slice();
-        nodes[slot].constraint = Some(constraint);
+        self.nodes[slot].constraint = Some(constraint);
     }
 
     /// Sets the adjoining constraint of one node by the bytes of an adjoining field, or says which rule they break.
@@ -26,17 +25,17 @@ impl Table {
         ensures answers { Adjoins (adjoin self.old.trees.items self.old.nodes.items tree node choice list.now) self.old self.new result }
         ensures touches { OneSet tree node choice list.now self.old self.new result }
     {
-        let Some(slot) = target(self.trees.as_slice(), self.nodes.as_slice(), tree, node) else {
-            return Err(Rule::Target);
+        let slot = self.target(tree, node).ok_or(Rule::Target)?;
+        let obligation = obligation(choice, list)?;
+        let label = self.nodes[slot].kind.label();
+        if !self.listable(label, list) {
+            return Err(Rule::List);
+        }
+        let constraint = Constraint {
+            obligation,
+            listed: marked(list),
         };
-        if !needs_met(choice, list) {
-            return Err(Rule::List);
-        }
-        let label = label_of(self.nodes.as_slice()[slot].kind);
-        if !listable(self.trees.as_slice(), label, list) {
-            return Err(Rule::List);
-        }
-        self.constrain(slot, constraint_of(choice, list));
+        self.constrain(slot, constraint);
         Ok(())
     }
 }

@@ -24,13 +24,9 @@ impl Table {
     pub fn nodes(&self, tree: u8) -> &[Node]
         ensures { result.now ≡ nodes_at self.now.trees.items self.now.nodes.items tree }
     {
-        let trees = self.trees();
-        let nodes = self.nodes.as_slice();
-        let t = tree as usize;
-        if t >= trees.len() {
-            return &nodes[0..0];
-        }
-        let first = trees[t].start;
-        &nodes[first..first + trees[t].size]
+        let Some(tree) = self.trees().get(usize::from(tree)) else {
+            return &[];
+        };
+        &self.nodes[tree.start..tree.start + tree.size]
     }
 }

@@ -1,12 +1,7 @@
-use Rattle.std.proofs.Common.{◌≡◌, ℕ, suc, ◌+◌, ◌-◌, List, ◌++◌, vec_items, sym, refl, ap, ◌∙◌, append_assoc, append-nil, arith}
+use Rattle.std.proofs.Common.{◌≡◌, ℕ, suc, ◌+◌, ◌-◌, List, ◌++◌, vec_items, refl, ap, ◌∙◌, append_assoc, arith}
 use Rattle.std.proofs.lemmas.Slice.{pushed}
 use Rattle.readcases.specs.Hex.{copies}
 use Rattle.readcases.proofs.hex.append.Goals as goal
-
-pub loop-init : goal.loop-init
-loop-init c =
-    let e : c.args.times - 0 ≡ c.args.times = omega arith in
-    ap (λ (n : ℕ). vec_items c.args.bytes.now ++ copies n c.args.part.now) e
 
 pub loop-preserved : goal.loop-preserved
 loop-preserved c =
@@ -16,10 +11,3 @@ loop-preserved c =
     let e : suc left ≡ c.args.times - c.loop.counter = omega (arith, c.loop-test.true) in
     ap (λ (l : List ℕ). l ++ copies left part) (pushed part refl c.in_ok-extend_from_slice.was c.extend_from_slice.ensures.items)
     ∙ (append_assoc held part (copies left part) ∙ (ap (λ (n : ℕ). held ++ copies n part) e ∙ c.loop.invariant))
-
-pub returns : goal.returns
-returns c =
-    let part = c.args.part.now in
-    let held = vec_items c.loop.bytes in
-    let e : 0 ≡ c.args.times - c.loop.counter = omega (arith, c.loop-test.false) in
-    sym (append-nil held) ∙ (ap (λ (n : ℕ). held ++ copies n part) e ∙ c.loop.invariant)

@@ -1,22 +1,30 @@
-use Rattle.std.proofs.Common.{length, sym, ap, subst, arith}
-use Rattle.grammar.specs.Grammars.{contents_in}
-use Rattle.walk.specs.Ahead.{Ahead, whole_tree}
-use Rattle.walk.specs.Guided.{Led}
-use Rattle.walk.proofs.Goings.{going_start, start_ahead}
+use Rattle.std.proofs.Common.{◌≡◌, Some, ◌∙◌, rules, arith}
+use Rattle.walk.specs.declared.choice.Choice.TheVariants.{Stay, Adjoin}
+use Rattle.walk.proofs.Guides.{chosen_on}
 use Rattle.walk.proofs.machine.walk.Goals as goal
 
-pub loop-w-init : goal.loop-w-init
-loop-w-init g c =
-    let d = contents_in c.args.grammar.now in
-    let s = c.args.guide.now in
-    let f = c.begin.new.stack in
-    let k = c.begin.auto.stack in
-    let n = ap length c.nodes.ensures in
-    let r = c.if-stack-choices_left.false in
-    let l = c.choices_left.ensures in (
-      going_start d c.args.grammar.now.ends f c.args.tag c.args.tree (length c.nodes.result.now) c.begin.ensures.new (omega arith) n,
-      omega arith,
-      subst (λ (a : Ahead). Led g.G.Guide.holds d (whole_tree d c.args.tag c.args.tree) a s s)
-          (sym (start_ahead d c.args.grammar.now.ends f c.args.tag c.args.tree (length c.nodes.result.now) c.begin.ensures.new (omega arith) n))
-          (record { holds = λ s₀ h. h }),
-    )
+pub loop-at-preserved-in-Stay : goal.loop-at-preserved-in-Stay
+loop-at-preserved-in-Stay g c =
+    let i = c.loop-at.invariant in
+    let m = c.enter.ensures in
+    let r = rw c.in-Some.is at c.next_choice.ensures in
+    let e : c.choose.result ≡ Some Stay = search rules in
+    let k = rw e at c.choose.ensures in
+    record {
+      grammar = m.grammar ∙ (r.grammar ∙ i.grammar);
+      room = omega (arith, m.depth, m.entries, r.depth, r.entries, r.left, i.room, k.0);
+      led = chosen_on g.G.Guide.holds g.G.Guide.left c.loop-at.walking c.next_choice.new.self c.enter.new.self c.in-Some.at Stay i.grammar i.led r k.1 m;
+    }
+
+pub loop-at-preserved : goal.loop-at-preserved
+loop-at-preserved g c =
+    let i = c.loop-at.invariant in
+    let m = c.adjoin.ensures in
+    let r = rw c.in-Some.is at c.next_choice.ensures in
+    let e : c.choose.result ≡ Some (Adjoin c.in-Adjoin.tree c.in-Adjoin.tag) = search rules in
+    let k = rw e at c.choose.ensures in
+    record {
+      grammar = m.grammar ∙ (r.grammar ∙ i.grammar);
+      room = omega (arith, m.depth, m.entries, r.depth, r.entries, r.left, i.room, k.0);
+      led = chosen_on g.G.Guide.holds g.G.Guide.left c.loop-at.walking c.next_choice.new.self c.adjoin.new.self c.in-Some.at (Adjoin c.in-Adjoin.tree c.in-Adjoin.tag) i.grammar i.led r k.1 m;
+    }

@@ -1,52 +1,45 @@
-use Rattle.std.proofs.Common.{◌≡◌, ℕ, suc, ◌+◌, ◌<◌, ◌≤◌, List, length, get_or, Some, sym, ap, ◌∙◌, subst, add-one, arith}
+use Rattle.std.proofs.Common.{◌≡◌, suc, ◌+◌, List, Some, ap, ◌∙◌, sym, add-one, arith, rules}
+use Rattle.std.proofs.lemmas.Option.{slice_get_within}
 use Rattle.format.specs.declared.node.Node.{Node}
-use Rattle.format.specs.Parts.{Contents, no_node}
+use Rattle.format.specs.Keeps.{node_in, nodes_in}
+use Rattle.format.specs.Ends.{past}
 use Rattle.format.specs.Layout.{pass}
-use Rattle.format.specs.Keeps.{nodes_in, Ends, ChildWithin}
-use Rattle.format.specs.Questions.{nth, roots_from}
+use Rattle.format.specs.Questions.{nth, children_of}
 use Rattle.grammar.specs.Grammars.{contents_in}
-use Rattle.grammar.proofs.Questions.{absent, nth_root, no_root, few_nodes}
+use Rattle.grammar.proofs.Questions.{no_root, child_place, few_nodes}
 use Rattle.grammar.proofs.grammar.Grammar.child.Goals as goal
 
--- a child's number is one of the tree's nodes
-child_there : (d : Contents) → Ends d → ChildWithin d → (t n k : ℕ) (ws : List Node) → ws ≡ nodes_in d t → n < length ws → k < (get_or ws n no_node).children → pass ws k (n + 1) < length ws
-child_there d ends within t n k ws e h l =
-    let vs = nodes_in d t in
-    let hv : n < length vs = omega (arith, ap length e) in
-    let lv : k < (get_or vs n no_node).children = subst (λ (us : List Node). k < (get_or us n no_node).children) e l in
-    let a = within t n k (hv, lv) in
-    let b = ends t n hv in
-    let p : pass ws k (n + 1) ≡ pass vs k (suc n) = ap (λ (us : List Node). pass us k (n + 1)) e ∙ ap (pass vs k) (add-one n) in
-    omega (arith, ap length e, b.1)
-
-pub returns-then-n-nodes : goal.returns-then-n-nodes
-returns-then-n-nodes c =
-    let vs = nodes_in (contents_in c.args.self.now) c.args.tree in
-    sym (ap (λ (v : Node). nth (roots_from vs v.children (suc c.args.node)) c.args.number)
-    (absent vs c.nodes-nodes.result.now c.args.node c.nodes-nodes.ensures c.if-n-nodes.true))
-
-pub returns-then-number-nodes : goal.returns-then-number-nodes
-returns-then-number-nodes c =
-    let vs = nodes_in (contents_in c.args.self.now) c.args.tree in
-    sym (no_root vs (get_or vs c.args.node no_node).children c.args.number (suc c.args.node)
-    (subst (λ (us : List Node). (get_or us c.args.node no_node).children ≤ c.args.number) c.nodes-nodes.ensures c.if-number-nodes.true))
-
-pub nth_subtree-requires : goal.nth_subtree-requires
-nth_subtree-requires c k l =
+pub map-requires : goal.map-requires
+map-requires c x is _ _ =
     let g = c.args.self.now in
-    child_there (contents_in g) g.ends g.within c.args.tree c.args.node k c.nodes-nodes.result.now c.nodes-nodes.ensures c.if-n-nodes.false (let m = c.if-number-nodes.false in omega arith)
+    let d = contents_in g in
+    let t = c.args.tree in
+    let n = c.args.node in
+    let k = c.args.number in
+    let count = ap (λ (v : Node). v.children) c.in_ok-parent.ensures.or_none in
+    let there = slice_get_within (nodes_in d t) n c.in_ok-parent.parent.now (sym c.in_ok-parent.ensures.numbered) in
+    let p = child_place d g.within g.ends t n k there (omega (arith, count)) in
+    let e = c.past_subtrees.ensures ∙ (ap (λ (us : List Node). past us k (c.from.result + 1)) c.nodes.ensures ∙ ap (past (nodes_in d t) k) (add-one c.from.result ∙ ap suc c.from.ensures)) in
+    let b = few_nodes d g.few t in
+    let same : x ≡ pass (nodes_in d t) k (suc n) = let both : Some x ≡ Some (pass (nodes_in d t) k (suc n)) = sym is ∙ (e ∙ p.1) in cc in
+    omega (arith, same, p.2, b)
 
-pub overflow_cast-result : goal.overflow_cast-result
-overflow_cast-result c =
-    let g = c.args.self.now in
-    let a = child_there (contents_in g) g.ends g.within c.args.tree c.args.node c.args.number c.nodes-nodes.result.now c.nodes-nodes.ensures c.if-n-nodes.false c.if-number-nodes.false in
-    let b = few_nodes (contents_in g) g.few c.args.tree in
-    omega (arith, c.nth_subtree.ensures, ap length c.nodes-nodes.ensures)
+pub returns-then-number-parent : goal.returns-then-number-parent
+returns-then-number-parent c =
+    let d = contents_in c.args.self.now in
+    let count = ap (λ (v : Node). v.children) c.in_ok-parent.ensures.or_none in
+    sym (no_root (nodes_in d c.args.tree) (node_in d c.args.tree c.args.node).children c.args.number (suc c.args.node) (omega (arith, count)))
 
 pub returns : goal.returns
 returns c =
-    let vs = nodes_in (contents_in c.args.self.now) c.args.tree in
+    let g = c.args.self.now in
+    let d = contents_in g in
+    let t = c.args.tree in
     let n = c.args.node in
     let k = c.args.number in
-    ap Some (c.nth_subtree.ensures ∙ (ap (λ (us : List Node). pass us k (n + 1)) c.nodes-nodes.ensures ∙ ap (pass vs k) (add-one n)))
-    ∙ sym (nth_root vs (get_or vs n no_node).children k (suc n) (subst (λ (us : List Node). k < (get_or us n no_node).children) c.nodes-nodes.ensures c.if-number-nodes.false))
+    let count = ap (λ (v : Node). v.children) c.in_ok-parent.ensures.or_none in
+    let there = slice_get_within (nodes_in d t) n c.in_ok-parent.parent.now (sym c.in_ok-parent.ensures.numbered) in
+    let p = child_place d g.within g.ends t n k there (omega (arith, count)) in
+    let e : c.past_subtrees.result ≡ nth (children_of d t n) k
+    = c.past_subtrees.ensures ∙ (ap (λ (us : List Node). past us k (c.from.result + 1)) c.nodes.ensures ∙ (ap (past (nodes_in d t) k) (add-one c.from.result ∙ ap suc c.from.ensures) ∙ p.0)) in
+    search rules
