@@ -1,9 +1,11 @@
 -- A turn of the work.
-use Rattle.std.proofs.Common.{◌≡◌, ℕ, zero, suc, ◌+◌, ◌-◌, ◌<◌, Bool, true, false, cond, sym, refl, ap, ◌∙◌, arith}
+use Rattle.std.proofs.Common.{◌≡◌, ℕ, zero, suc, ◌+◌, ◌-◌, ◌<◌, Bool, true, false, cond, sym, refl, ap, ◌∙◌, subst, arith}
 use Rattle.format.specs.Parts.{Contents}
 use Rattle.words.specs.Meaning.{Meaning}
 use Rattle.steps.specs.Conclusions.{conclusions}
 use Rattle.steps.specs.Runs.{State, draw_all, Working, goes_on, process, worked}
+use Rattle.theory.specs.Came.{Came}
+use Rattle.theory.proofs.Came.{came_worked}
 use Rattle.chart.specs.declared.store.Store.{Store}
 use Rattle.grammar.specs.declared.grammar.Grammar.{Grammar}
 use Rattle.grammar.specs.Grammars.{contents_in}
@@ -39,3 +41,13 @@ work_on m s t u a n all k h p e go d =
       grown_then s t u p d.grown,
       e ∙ (worked_go c m cap (all - k) (all - (k + 1)) (working t n) q go ∙ ap (λ (w : Working). worked (contents_of s) m cap (all - (k + 1)) w) (sym (processes_one c m cap t u n p.list.room same))),
     )
+
+-- A turn keeps that items came by their steps: it is work with a budget of one.
+pub came_on : (m : Meaning) (t u : Store) (n : ℕ) → goes_on (working t n) ≡ true → Drawn t u (conclusions (contents_of t) m (held_in t) n)
+    → Came (contents_of t) (held_in t) → Came (contents_of u) (held_in u)
+came_on m t u n go d h =
+    let c = contents_of t in
+    let cap = room_in t in
+    let e : working u (n + 1) ≡ worked c m cap 1 (working t n) = processes_one c m cap t u n refl d ∙ sym (worked_go c m cap 1 0 (working t n) refl go) in
+    subst (λ (g : Grammar). Came (contents_in g) (held_in u)) (sym d.grown.grammar)
+    (subst (λ (w : Working). Came c w.state.items) (sym e) (came_worked c m cap 1 (working t n) h))

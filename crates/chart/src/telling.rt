@@ -2,6 +2,7 @@
 ghost use Rattle.std.specs.Prelude.{◌≡◌};
 ghost use Rattle.grammar.specs.Grammars.{contents_in};
 ghost use Rattle.steps.specs.Verdicts.{says_yes, yes_in, verdict};
+ghost use Rattle.theory.specs.Came.{Came};
 ghost use Rattle.chart.specs.Drawn.{contents_of, held_in};
 ghost use Rattle.chart.specs.Charts.{working_in, working_closed, shown};
 
@@ -73,9 +74,10 @@ impl Closed<'_> {
         self.chart.item(number)
     }
 
-    /// The held items, in the order of their numbers.
+    /// The held items, in the order of their numbers. Each came by the step that its origin names.
     pub fn items(&self) -> &[Item]
-        ensures { result.now ≡ (working_closed self.now).state.items }
+        ensures items { result.now ≡ (working_closed self.now).state.items }
+        ensures came { Came (contents_of self.now.chart.store) result.now }
     {
         self.chart.items()
     }

@@ -1,10 +1,13 @@
-use Rattle.std.proofs.Common.{◌≡◌, ℕ, ◌≤◌, not, length, drop, is_ok, vec_items, sym, ap, ◌∙◌, subst, arith}
+use Rattle.std.proofs.Common.{◌≡◌, ℕ, ◌≤◌, not, length, drop, [], is_ok, vec_items, sym, refl, ap, ◌∙◌, subst, arith}
 use Rattle.distinct.specs.Runs.{Listed, held_in}
+use Rattle.grammar.specs.declared.grammar.Grammar.{Grammar}
 use Rattle.grammar.specs.Grammars.{contents_in}
 use Rattle.steps.specs.declared.item.Item.{Item}
 use Rattle.steps.specs.Items.{most_positions}
 use Rattle.steps.specs.Conclusions.{starts}
-use Rattle.steps.specs.Runs.{draw_all}
+use Rattle.steps.specs.Runs.{State, draw_all}
+use Rattle.theory.specs.Came.{Came}
+use Rattle.theory.proofs.Came.{came_starts}
 use Rattle.chart.specs.Drawn.{state_of}
 use Rattle.chart.specs.Charts.{judged}
 use Rattle.chart.proofs.Lives.{made_by, short_by}
@@ -22,6 +25,8 @@ invariant_of-result g c =
     record {
       behind = omega arith;
       short = λ h. subst (λ (k : ℕ). k ≤ most_positions) (sym c.last_position-last.ensures) (short_by d cap n f (state_of c.start_trees.new.self) o e h);
+      came = subst (λ (x : Grammar). Came (contents_in x) (state_of c.start_trees.new.self).items) (sym c.start_trees.ensures.grown.grammar)
+          (subst (λ (s : State). Came d s.items) (sym e) (came_starts d cap (record { items = []; full = f }) refl));
     }
 
 pub returns : goal.returns
