@@ -4,7 +4,9 @@ ghost use Rattle.format.specs.Judge.{entries, arities, arity, feet_right};
 ghost use Rattle.format.specs.Trees.{plain_node};
 ghost use Rattle.format.specs.Ends.{freshes, bares};
 ghost use Rattle.fields.specs.Reading.{Agrees, judge_nodes};
+ghost use Rattle.std.specs.List.{position};
 ghost use Rattle.format.specs.Parts.{feet};
+ghost use Rattle.format.specs.Keeps.{is_foot};
 
 use crate::field::pair;
 use crate::header::Header;
@@ -59,20 +61,24 @@ pub(crate) fn arities(nodes: &[Node]) -> bool
     nodes.iter().all(|node| fits(node.kind, node.children))
 }
 
+/// The first foot among the nodes.
+fn first_foot(nodes: &[Node]) -> Option<usize>
+    ensures { result ≡ position (λ v. is_foot v.kind) nodes.now }
+{
+    nodes
+        .iter()
+        .position(|node| matches!(node.kind, Kind::Foot(_)))
+}
+
 /// Whether the feet are right for a tree of this form whose root has the label.
 pub(crate) fn feet_right(form: Form, label: u8, nodes: &[Node]) -> bool
     ensures { result ≡ feet_right form label (feet (bares nodes.now)) }
 {
-    let feet = nodes
-        .iter()
-        .filter(|node| matches!(node.kind, Kind::Foot(_)))
-        .count();
-    let labelled = nodes
-        .iter()
-        .filter(|node| node.kind == Kind::Foot(label))
-        .count();
-    match form {
-        Form::Initial => feet == 0,
-        Form::Auxiliary => labelled == feet && feet == 1,
+    match (form, first_foot(nodes)) {
+        (Form::Initial, first) => first.is_none(),
+        (Form::Auxiliary, Some(first)) => {
+            nodes[first].kind == Kind::Foot(label) && first_foot(&nodes[first + 1..]).is_none()
+        }
+        (Form::Auxiliary, None) => false,
     }
 }

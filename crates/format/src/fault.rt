@@ -78,15 +78,22 @@ impl Rule {
     }
 }
 
+/// The word for a layer.
+pub fn layer_name(layer: Layer) -> &'static str
+    ensures { result.now ≡ layer_name layer }
+{
+    match layer {
+        Layer::Field => "field",
+        Layer::Tree => "tree",
+        Layer::Adjoining => "adjoining",
+    }
+}
+
 impl fmt::Display for Layer {
     ghost output = { λ x. Some (layer_name x) };
 
     fn fmt<W: fmt::Write>(&self, f: &mut fmt::Formatter<W>) -> fmt::Result {
-        f.write_str(match self {
-            Layer::Field => "field",
-            Layer::Tree => "tree",
-            Layer::Adjoining => "adjoining",
-        })
+        f.write_str(layer_name(*self))
     }
 }
 

@@ -1,11 +1,20 @@
 //! When two items are the same: all but their origins agree.
-ghost use Rattle.steps.specs.Items.{same_item};
+ghost use Rattle.std.specs.Prelude.{◌≡◌};
+ghost use Rattle.steps.specs.Items.{same_spot, same_item};
 ghost use Rattle.steps.specs.ItemSameLemmas.{both, num};
 ghost use Rattle.steps.specs.ItemSameLemmas;
 ghost use Rattle.std.proofs.Common.{rules};
 
 use crate::item::Item;
 use distinct::Same;
+use format::spot::Spot;
+
+/// Whether two places in trees are the same.
+pub fn same_spot(a: Spot, b: Spot) -> bool
+    ensures { result ≡ same_spot a b }
+{
+    a == b
+}
 
 impl Same for Item {
     ghost alike = { same_item };
@@ -24,7 +33,7 @@ impl Same for Item {
 
     fn same(&self, other: &Item) -> bool {
         self.tree == other.tree
-            && self.spot == other.spot
+            && same_spot(self.spot, other.spot)
             && self.dot == other.dot
             && self.i == other.i
             && self.j == other.j

@@ -9,14 +9,11 @@ use crate::grammar::questions::listed;
 use format::node::Node;
 use format::spot::Site;
 
-/// How many nodes from the number `from` on stand before the first that lists the auxiliary tree.
-fn first_listing(nodes: &[Node], from: usize, auxiliary: u8) -> Option<usize>
-    ensures { result ≡ position (λ v. lists v.constraint auxiliary) (drop from nodes.now) }
+/// How many nodes stand before the first that lists the auxiliary tree.
+fn first_listing(nodes: &[Node], auxiliary: u8) -> Option<usize>
+    ensures { result ≡ position (λ v. lists v.constraint auxiliary) nodes.now }
 {
-    nodes
-        .iter()
-        .skip(from)
-        .position(|node| listed(node, auxiliary))
+    nodes.iter().position(|node| listed(node, auxiliary))
 }
 
 impl Grammar {
@@ -24,7 +21,9 @@ impl Grammar {
     fn listing_in(&self, tree: u8, from: u8, auxiliary: u8) -> Option<Site>
         ensures { result ≡ first (listing_nodes auxiliary tree from (drop from (nodes_in (contents_in self.now) tree))) }
     {
-        let past = first_listing(self.nodes(tree), usize::from(from), auxiliary)?;
+        // No `skip`, which takes each node before `from` in turn.
+        let behind = self.nodes(tree).get(usize::from(from)..)?;
+        let past = first_listing(behind, auxiliary)?;
         Some(Site {
             tree,
             node: from + past as u8,
